@@ -7,7 +7,7 @@ DESTDIR ?=
 C_FLAGS := -std=gnu11 -O2 -Wall -Wextra -Wconversion -Wshadow -Werror
 export PREFIX DESTDIR
 
-.PHONY: help try demo build texts capture packages quick mutants crate test trials lint gate install uninstall deb \
+.PHONY: help try demo build texts capture packages quick mutants crate test trials lint gate install uninstall deb wheel \
 	refused-growth fuzz bench clean
 
 help: ## lists the targets
@@ -23,7 +23,7 @@ demo: build ## builds the program, and shows a recording from filter to extracte
 build: ## proves the program and all that it stands on: bin/bpfrec, and bin/capture if libpcap-dev is installed
 	@dev/build/build.py $(if $(KEEP_COSTS),--keep-costs)
 
-texts: ## the manual page, the completions and the plugin for Wireshark, in bin/: they need no build
+texts: ## the manual pages and the plugin for Wireshark, in bin/: they need no build
 	@dev/package/make_texts.py
 
 # They stand beside the program where it is built, and where it is tried.
@@ -53,7 +53,7 @@ test: ## all: the proofs of what is shipped, tests, stored runs, the edits of wh
 gate: ## everything from nothing by the toolchain's gate: proofs, every edit, tests, two compilers
 	@dev/build/gate.py
 
-install: ## installs what make build has made, with the tools and the page: PREFIX=/usr/local DESTDIR=..
+install: ## installs what make build has made, with the tools and the pages: PREFIX=/usr/local DESTDIR=..
 	@dev/package/install.sh
 
 uninstall: ## removes what make install has installed
@@ -61,6 +61,9 @@ uninstall: ## removes what make install has installed
 
 deb: ## Debian packages of the same: bin/bpfrec_<version>_<architecture>.deb, bpfrec-tools and python3-bpfrec
 	@dev/package/make_deb.sh
+
+wheel: ## the Python package for pip: bin/bpfrec-<version>-py3-none-any.whl, which needs no build
+	@dev/package/make_wheel.py
 
 refused-growth: build ## refuses each growth of memory of each command, in turn
 	cd crates/test_recorder && $(RT) test -- without_memory

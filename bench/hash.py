@@ -1,5 +1,5 @@
 #!/usr/bin/env python3
-"""Times the hash that host/bin/live takes of a recording that has ended, beside `sha256sum`.
+"""Times the hash that bpfrec live takes of a recording that has ended, beside `sha256sum`.
 
 usage: bench/hash.py [--megabytes N] [--rounds N]
 

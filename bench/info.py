@@ -1,11 +1,11 @@
 #!/usr/bin/env python3
-"""Times host/bin/info and host/bin/salvage on recordings of frames of several lengths.
+"""Times bpfrec info and bpfrec salvage on recordings of frames of several lengths.
 
 usage: bench/info.py [--megabytes N] [--rounds N]
 
 It makes feeds of 64, 60 to 80, 300 and 1,500 bytes a frame, records them with a filter that keeps all, and reads each
-recording by host/bin/info with the audit (of which data checksums need no summing) and without a program, and by
-host/bin/salvage into /dev/null. It prints a table for RESULTS.md: megabytes a second by the clock and of processor time
+recording by bpfrec info with the audit (of which data checksums need no summing) and without a program, and by
+bpfrec salvage into /dev/null. It prints a table for RESULTS.md: megabytes a second by the clock and of processor time
 (the audit's included), medians, and the most memory. It needs bin/bpfrec (make build); files go to TMPDIR: in memory
 (TMPDIR=/dev/shm) no disk is measured with it.
 """
@@ -24,7 +24,9 @@ ROOT = Path(__file__).resolve().parent.parent
 sys.path.insert(0, str(ROOT / "dev/trials/lib"))
 from frames import HEAD, record_of
 
-BPFREC, INFO, SALVAGE = (ROOT / it for it in ("bin/bpfrec", "host/bin/info", "host/bin/salvage"))
+BPFREC, INFO, SALVAGE = (
+    ROOT / it for it in ("bin/bpfrec", "dev/trials/lib/tools/info", "dev/trials/lib/tools/salvage")
+)
 LENGTHS = {"64": (64, 64), "60 to 80": (60, 80), "300": (300, 300), "1,500": (1_500, 1_500)}
 
 

@@ -5,11 +5,11 @@ usage: bench/latency.py [--part disk|shown|sent|idle] [--seconds N]
 
 It makes a network namespace with virtual interfaces, and sends frames of 60 bytes into one of them, 1, 10 and 1,000 a
 second for N seconds (20), and 1,000 that nothing follows.
-disk: host/bin/live records them with `--span 100ms --sync 100ms`, and as it does by default. All the time it is looked
+disk: bpfrec live records them with `--span 100ms --sync 100ms`, and as it does by default. All the time it is looked
 at how old the oldest frame is that isn't in the file, which kill -9 of all would lose, and the oldest that isn't among
 what was forced to the disk, which lost power would. At the end all its programs are killed by kill -9, and it is
 counted what the file has.
-shown, sent: with `--span 50ms` it is looked when tshark prints each frame behind host/bin/follow, and when it comes to
+shown, sent: with `--span 50ms` it is looked when tshark prints each frame behind bpfrec follow, and when it comes to
 a receiver of --publish, of one channel and of two, one of which is silent.
 idle: what 64 channels without frames take of a processor, and write, with spans and without.
 
@@ -43,7 +43,7 @@ from observed import OBSERVED
 from recordings import RUN, processes_of
 from support import BPFREC, LIVE, Running, run
 
-FOLLOW = ROOT / "host/bin/follow"
+FOLLOW = ROOT / "dev/trials/lib/tools/follow"
 # Frames a second; None are a thousand that nothing follows.
 RATES = (1, 10, 1_000, None)
 # How often it is looked at, for how long where nothing follows, and for how long programs begin, in seconds.

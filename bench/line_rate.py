@@ -3,7 +3,7 @@
 
 usage: bench/line_rate.py [--seconds N] [--senders N] [--buffer MIB]
 
-Each of four senders (bin/send_frames) sends into its own pair of virtual interfaces, and host/bin/live records what
+Each of four senders (bin/send_frames) sends into its own pair of virtual interfaces, and bpfrec live records what
 the others receive, a channel each, of 64, 300 and 1,500 bytes. The rate of all is doubled until a frame is dropped, or
 until the senders reach it no more, and then halved in five steps towards the greatest rate at which none is. It prints
 a row for each length, with the machine's load. It needs what bench/wire.py needs.

@@ -1,10 +1,10 @@
 #!/usr/bin/env python3
-"""Times host/bin/publish and host/bin/receive: how many frames a second they take, and how late a packet is sent.
+"""Times bpfrec publish and bpfrec receive: how many frames a second they take, and how late a packet is sent.
 
 usage: bench/publish.py [--frames N] [--length BYTES] [--packets N]
 
 It makes a recording of N frames (500,000 of 300 bytes), whose counters are those of 100,000 a second, and publishes it
-with --fast to host/bin/receive on this machine: frames a second by the clock and of each program's processor. Then it
+with --fast to bpfrec receive on this machine: frames a second by the clock and of each program's processor. Then it
 plays a recorder: it writes a packet of 10 frames each 50 ms into a recording that goes on, which publish follows, and
 prints how long after each write the datagram came here.
 

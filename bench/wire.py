@@ -4,14 +4,14 @@
 usage: bench/wire.py [--frames N] [--rate N] [--most N] [--part wire|files|syncs|spans|follow|publish] [--before CHECKOUT]
 
 It makes a network namespace with a pair of virtual interfaces, sends frames of 64, 300 and 1,500 bytes into
-one of them as fast as bin/send_frames can, and records what the other receives: by host/bin/live, with a filter
+one of them as fast as bin/send_frames can, and records what the other receives: by bpfrec live, with a filter
 that keeps all and one that keeps a 32nd, which the kernel runs too with --prefilter; and by `dumpcap -w` and
 `tcpdump -w`, which take all or have the kernel drop what the same filter drops. Each has 256 MiB of the kernel's
-buffer. Then it makes a feed of a capture of as many frames, by host/bin/convert and by `capture -r`.
+buffer. Then it makes a feed of a capture of as many frames, by convert and by `capture -r`.
 
-With --part syncs it records by host/bin/live alone, forced to the disk each second (the default), and only at the end
+With --part syncs it records by bpfrec live alone, forced to the disk each second (the default), and only at the end
 (`--sync 0`, told as before), in turn: what the syncs cost. With --part spans the same of spans.
-With --part follow it records by host/bin/live alone (told as before) and with host/bin/follow beside it, in turn: what
+With --part follow it records by bpfrec live alone (told as before) and with bpfrec follow beside it, in turn: what
 the live view costs the recorder. `--rate` has frames sent at that rate. With --part publish it does so with --publish.
 
 Each recording of a round is compared with that of the same round by tcpdump, or by the other way. Rounds go on until
@@ -43,9 +43,8 @@ sys.path.insert(0, str(ROOT / "dev/trials/lib"))
 import namespace
 from frames import HEAD
 
-LIVE, FOLLOW, FEED, CAPTURE, SENDER = (
-    ROOT / it for it in ("host/bin/live", "host/bin/follow", "host/bin/convert", "bin/capture", "bin/send_frames")
-)
+LIVE, FOLLOW, FEED = (ROOT / "dev/trials/lib/tools" / it for it in ("live", "follow", "convert"))
+CAPTURE, SENDER = ROOT / "bin/capture", ROOT / "bin/send_frames"
 WANTED = {"ip": "iproute2", "tcpdump": "tcpdump", "dumpcap": "wireshark-common"}
 INSIDE = "BPFREC_WIRE_INSIDE"
 LENGTHS = (64, 300, 1_500)
@@ -91,7 +90,7 @@ def make_pairs(count: int = 1) -> None:
 
 
 def commands(work: Path, buffer: int, before: Path | None) -> Commands:
-    """What records; with another checkout its host/bin/live and ours, in turn, and no other program."""
+    """What records; with another checkout its bpfrec live and ours, in turn, and no other program."""
     made: Commands = {}
     for name in FILTERS:
         (work / name).write_text(FILTERS[name])
@@ -110,13 +109,13 @@ def commands(work: Path, buffer: int, before: Path | None) -> Commands:
             work / "out",
         ]
         tcpdump = ["tcpdump", "-Z", "root", "-n", "-i", "rx0", "-B", buffer * 1024, "-w", work / "out", *expression]
-        for program, tree in {"host/bin/live, before": before, "host/bin/live": ROOT}.items():
+        for program, tree in {"bpfrec live, before": before, "bpfrec live": ROOT}.items():
             if tree and not (before and expression):
-                made[program, name] = Recorder([tree / "host/bin/live", *live[1:]], "origin")
+                made[program, name] = Recorder([tree / "dev/trials/lib/tools/live", *live[1:]], "origin")
             if tree and not before and not expression:
                 made[f"{program} --no-audit", name] = Recorder([LIVE, "--no-audit", *live[1:]], "origin")
             if tree and expression:
-                prefiltered = [tree / "host/bin/live", "--prefilter", *live[1:]]
+                prefiltered = [tree / "dev/trials/lib/tools/live", "--prefilter", *live[1:]]
                 made[program.replace("live", "live --prefilter"), name] = Recorder(prefiltered, "origin")
         if before:
             continue
@@ -127,7 +126,7 @@ def commands(work: Path, buffer: int, before: Path | None) -> Commands:
 
 def counts_of(program: str, told: str, printed: str) -> tuple[int, int]:
     """How many frames a program recorded, and how many the kernel dropped, by its own words."""
-    if program.startswith("host/bin/live"):
+    if program.startswith("bpfrec live"):
         dropped = re.search(r"rx0 frames \d+ bytes \d+ dropped (\d+)", told)
         kept = re.search(r"channel 1 versions 1 offered \d+ kept (\d+)", printed)
     elif program == "dumpcap":
@@ -168,7 +167,7 @@ def record_once(
         begin = time.monotonic()
         sending = float(run(SENDER, "tx0", length, frames, *[rate] * (rate > 0)).split()[1])
         # dumpcap and tcpdump leave what the kernel holds when they are told to end, so they get time to take it.
-        if not program.startswith("host/bin/live"):
+        if not program.startswith("bpfrec live"):
             time.sleep(1)
         os.killpg(recorder.pid, signal.SIGINT)
         _, status, used = os.wait4(recorder.pid, 0)
@@ -241,33 +240,33 @@ def tell_ratios(length: int, found: dict[Key, Ratios]) -> None:
 
 
 def with_and_without(option: str, work: Path, buffer: int) -> Commands:
-    """Recordings by host/bin/live with the usual value of an option, and without."""
+    """Recordings by bpfrec live with the usual value of an option, and without."""
     words = ["--quiet", "--buffer", buffer, work / "out", "rx0=1"]
     return {
-        ("host/bin/live, before", "all"): Recorder([LIVE, option, "0", *words], "origin"),
-        ("host/bin/live", "all"): Recorder([LIVE, *words], "origin"),
+        ("bpfrec live, before", "all"): Recorder([LIVE, option, "0", *words], "origin"),
+        ("bpfrec live", "all"): Recorder([LIVE, *words], "origin"),
     }
 
 
 def with_and_without_follower(work: Path, buffer: int) -> Commands:
-    """Recordings by host/bin/live that nobody looks at, and with host/bin/follow beside them."""
+    """Recordings by bpfrec live that nobody looks at, and with bpfrec follow beside them."""
     words: list[object] = [LIVE, "--quiet", "--buffer", buffer, work / "out", "rx0=1"]
     return {
-        ("host/bin/live, before", "all"): Recorder(words, "origin"),
-        ("host/bin/live", "all"): Recorder(words, "origin", [FOLLOW, work / "out"]),
+        ("bpfrec live, before", "all"): Recorder(words, "origin"),
+        ("bpfrec live", "all"): Recorder(words, "origin", [FOLLOW, work / "out"]),
     }
 
 
 def with_and_without_publisher(work: Path, buffer: int) -> Commands:
-    """Recordings by host/bin/live alone, and with --publish to this machine, where nobody listens."""
+    """Recordings by bpfrec live alone, and with --publish to this machine, where nobody listens."""
     words: list[object] = ["--quiet", "--buffer", buffer, work / "out", "rx0=1"]
     return {
-        ("host/bin/live, before", "all"): Recorder([LIVE, *words], "origin"),
-        ("host/bin/live", "all"): Recorder([LIVE, "--publish", "127.0.0.1:50000", *words], "origin"),
+        ("bpfrec live, before", "all"): Recorder([LIVE, *words], "origin"),
+        ("bpfrec live", "all"): Recorder([LIVE, "--publish", "127.0.0.1:50000", *words], "origin"),
     }
 
 
-# What host/bin/live is timed with and without, in turn.
+# What bpfrec live is timed with and without, in turn.
 IN_TURN: dict[str, Callable[[Path, int], Commands]] = {
     "syncs": partial(with_and_without, "--sync"),
     "spans": partial(with_and_without, "--span"),
@@ -325,7 +324,7 @@ def time_files(work: Path, frames: int, rounds: int) -> None:
         write_capture(capture, length, frames)
         programs: dict[str, list[object]] = {
             "capture -r": [CAPTURE, "-r", f"{capture}={feed}"],
-            "host/bin/convert": [FEED, "from-pcap", capture, feed],
+            "convert": [FEED, "from-pcap", capture, feed],
             "cp": ["cp", capture, feed],
         }
         runs: dict[str, list[tuple[float, float]]] = {name: [] for name in programs}
@@ -366,7 +365,7 @@ def main() -> int:
     parser.add_argument("--rate", type=int, default=0, help="frames a second, in place of as many as can be sent")
     parser.add_argument("--buffer", type=int, default=BUFFER_MIB, help="MiB of the kernel's buffer for each program")
     parser.add_argument(
-        "--before", type=Path, metavar="CHECKOUT", help="times host/bin/live of that checkout and ours in turn alone"
+        "--before", type=Path, metavar="CHECKOUT", help="times bpfrec live of that checkout and ours in turn alone"
     )
     parser.add_argument("--ahead", action="store_true", help="put what is timed ahead of the machine's other work")
     words = parser.parse_args()

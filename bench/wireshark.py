@@ -3,7 +3,7 @@
 
 usage: bench/wireshark.py [--megabytes N] [--rounds N]
 
-It makes recordings of frames of 64, 300 and 1,500 bytes, captures of them by host/bin/pcapng, which it times too, and
+It makes recordings of frames of 64, 300 and 1,500 bytes, captures of them by bpfrec export, which it times too, and
 reads each by tshark: as a list, by statistics of all rows (io,stat), and with a filter on a field. It prints a table
 for RESULTS.md: frames a second of processor time, medians, and the most memory of tshark. It needs bin/bpfrec (make
 build) and tshark; files go to TMPDIR: in memory (TMPDIR=/dev/shm) no disk is measured with it.
@@ -18,7 +18,7 @@ from pathlib import Path
 
 from info import ROOT, record, timed
 
-PLUGIN, PCAPNG = ROOT / "bin/bpfrec.lua", ROOT / "host/bin/pcapng"
+PLUGIN, EXPORT = ROOT / "bin/bpfrec.lua", ROOT / "dev/trials/lib/tools/export"
 LENGTHS = {"64": 64, "300": 300, "1,500": 1_500}
 READINGS: dict[str, tuple[list[str], list[str]]] = {
     "list": ([], []),
@@ -35,9 +35,9 @@ def median(words: Sequence[object], env: dict[str, str], rounds: int) -> tuple[f
 
 def rows_of(name: str, recording: Path, capture: Path, rounds: int, env: dict[str, str]) -> Iterator[str]:
     """The rows of a table, of recordings of one length of frames."""
-    made = median([PCAPNG, "--quiet", "--force", capture, recording], env, rounds)[0]
-    frames = int(re.findall(r"[0-9]+", os.popen(f"{PCAPNG} --force {capture} {recording}").read())[0])
-    yield f"| {name} | host/bin/pcapng | {frames / made:,.0f} | | |"
+    made = median([EXPORT, "--quiet", "--force", recording, capture], env, rounds)[0]
+    frames = int(re.findall(r"[0-9]+", os.popen(f"{EXPORT} --force {recording} {capture}").read())[0])
+    yield f"| {name} | bpfrec export | {frames / made:,.0f} | | |"
     for reading, (of_recording, of_capture) in READINGS.items():
         tshark = ["tshark", "-n"]
         ours, memory = median([*tshark, "-X", f"lua_script:{PLUGIN}", "-r", recording, *of_recording], env, rounds)

@@ -164,25 +164,55 @@ static void note_upper_half(void) {
     }
 }
 
-static void report_setting(unsigned number) {
+/* Finds from which counter on a setting holds, by what frames have shown so far. Whether that is one from before
+ * counters have begun at 0 again. */
+static bool place_setting(unsigned number) {
     struct setting *setting = setting_of(number);
     setting->counter = counter_of(holds_from(setting));
-    int64_t by = setting->ahead - setting_of(number - 1)->ahead;
-    bool is_before = turned != 0 && counter_before < UPPER_HALF && setting->counter >= UPPER_HALF;
-    char text[SECONDS_TEXT_LEN], by_text[SECONDS_TEXT_LEN], scale[SCALE_TEXT_LEN];
-    print_scale(&noted_scale, scale);
+    return turned != 0 && counter_before < UPPER_HALF && setting->counter >= UPPER_HALF;
+}
+
+/* Prints the origin from a setting on, and by how much the clock was set. */
+static void print_setting(unsigned number, bool is_before, char text[SECONDS_TEXT_LEN], char by[SECONDS_TEXT_LEN]) {
     print_seconds(origin.at + turned - (is_before ? COUNTER_TURN : 0) + set_by(number), text);
-    print_seconds(by, by_text);
-    log_line("origin %s from counter %" PRIu64 " on: the clock was set by %s%s s", text, setting->counter,
-             by < 0 ? "" : "+", by_text);
-    note_event("{\"origin\": \"%s\", \"counter\": %" PRIu64 ", \"set_by\": \"%s\", %s}", text, setting->counter,
-               by_text, scale);
+    print_seconds(setting_of(number)->ahead - setting_of(number - 1)->ahead, by);
+}
+
+/* Notes a setting for the facts. What was noted of the same one before no longer counts. */
+static void note_setting(unsigned number, bool is_before) {
+    char text[SECONDS_TEXT_LEN], by[SECONDS_TEXT_LEN], scale[SCALE_TEXT_LEN];
+    print_setting(number, is_before, text, by);
+    print_scale(&noted_scale, scale);
+    note_event("{\"origin\": \"%s\", \"counter\": %" PRIu64 ", \"set_by\": \"%s\", \"setting\": %u, %s}", text,
+               setting_of(number)->counter, by, number, scale);
+}
+
+/* Notes those of these settings that aren't reported yet: a frame that came after them may end a recording, whose facts
+ * are written before they are reported. */
+static void note_early(unsigned first, unsigned last) {
+    pthread_mutex_lock(&lock);
+    for (unsigned number = first > reported ? first : reported + 1; number <= last; number++)
+        note_setting(number, place_setting(number));
+    pthread_mutex_unlock(&lock);
+}
+
+static void report_setting(unsigned number) {
+    char text[SECONDS_TEXT_LEN], by[SECONDS_TEXT_LEN];
+    pthread_mutex_lock(&lock);
+    bool is_before = place_setting(number);
+    uint64_t counter = setting_of(number)->counter;
+    reported = number;
+    print_setting(number, is_before, text, by);
+    note_setting(number, is_before);
     /* It came just before counters began at 0 again, and holds for those too. */
     if (is_before) {
         last_before = number;
         note_origin(number, turned, 0);
     }
     note_upper_half();
+    pthread_mutex_unlock(&lock);
+    log_line("origin %s from counter %" PRIu64 " on: the clock was set by %s%s s", text, counter,
+             by[0] == '-' ? "" : "+", by);
 }
 
 void report_origin(void) {
@@ -199,27 +229,34 @@ static void follow_scale(void) {
     struct scale scale = scale_of_run();
     if (is_same_scale(&scale, &noted_scale))
         return;
+    pthread_mutex_lock(&lock);
     noted_scale = scale;
     note_origin(reported, turned, 0);
     note_upper_half();
+    pthread_mutex_unlock(&lock);
 }
 
 /* Reports the origin that is right once counters have begun at 0 again. */
 static void follow_counter(void) {
     uint64_t before = counter_before;
+    pthread_mutex_lock(&lock);
     counter_before = counter_now();
-    if (counter_before < before) {
-        char text[SECONDS_TEXT_LEN];
+    bool has_turned = counter_before < before;
+    if (has_turned) {
         turned += COUNTER_TURN;
         last_before = reported;
-        print_seconds(origin.at + turned + set_by(reported), text);
-        log_line("origin %s from counter 0 on: counters have begun at 0 again", text);
         note_origin(reported, turned, 0);
         note_upper_half();
     } else if (before < UPPER_HALF && counter_before >= UPPER_HALF) {
         first_high = reported;
         if (turned != 0)
             note_origin(reported, turned, UPPER_HALF);
+    }
+    pthread_mutex_unlock(&lock);
+    if (has_turned) {
+        char text[SECONDS_TEXT_LEN];
+        print_seconds(origin.at + turned + set_by(reported), text);
+        log_line("origin %s from counter 0 on: counters have begun at 0 again", text);
     }
 }
 
@@ -229,7 +266,7 @@ void report_settings(bool is_end) {
     while (reported != atomic_load(&newest)) {
         if (!is_end && steady_now() - setting_of(reported + 1)->before < BEFORE_REPORT)
             return;
-        report_setting(++reported);
+        report_setting(reported + 1);
     }
 }
 
@@ -284,8 +321,10 @@ static nanoseconds judged_moment(struct frame_clock *clock, nanoseconds stamp) {
     unsigned before = clock->setting;
     clock->setting = setting_by_which(clock, stamp);
     nanoseconds moment = stamp - set_by(clock->setting);
-    if (clock->setting != before)
+    if (clock->setting != before) {
         note_frames(before + 1, clock->setting, steady_of(clock->last), steady_of(moment));
+        note_early(before + 1, clock->setting);
+    }
     return moment;
 }
 

@@ -1,6 +1,7 @@
 #define _GNU_SOURCE
 #include "convert.h"
 #include "check_sequence.h"
+#include "events.h"
 #include "log.h"
 #include "signals.h"
 
@@ -65,6 +66,14 @@ bool find_origin(struct arguments *arguments) {
     bool is_known = find_least(arguments);
     pthread_sigmask(SIG_BLOCK, &ending, NULL);
     return is_known;
+}
+
+void note_file_origin(const struct arguments *arguments) {
+    char text[SECONDS_TEXT_LEN];
+    if (arguments->origin.is_first_frame)
+        return;
+    print_seconds(arguments->origin.at, text);
+    note_event("{\"origin\": \"%s\", \"counter\": 0, \"scale\": \"UTC\"}", text);
 }
 
 static void flush_before_waiting(void *listener) {

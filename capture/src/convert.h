@@ -26,6 +26,9 @@ struct conversion {
  * known; else a line has said why not. */
 bool find_origin(struct arguments *arguments);
 
+/* Notes for the facts the origin of all files, where it is known: captures have UTC times. */
+void note_file_origin(const struct arguments *arguments);
+
 /* Writes the feed and logs the counts. */
 void run_conversion(struct conversion *conversion);
 

@@ -220,12 +220,14 @@ static int run_live(struct work *works, const struct arguments *arguments) {
 
 /* Converts files, whose bytes may be anybody's. The status. */
 static int run_files(struct work *works, struct arguments *arguments) {
-    if (!drop_privileges_but_files())
+    if (!drop_privileges_but_files() || (arguments->events != NULL && !open_events(arguments->events)))
         return NOT_BEGUN;
+    follow_parent(arguments->parent);
     limit_writing(arguments);
     forbid_other_calls();
     if (!find_origin(arguments))
         return NOT_BEGUN;
+    note_file_origin(arguments);
     return run_all(works, arguments->count, NULL);
 }
 

@@ -35,6 +35,19 @@ def test_a_setting_between_frames_is_told_from_the_last_look_on_that_did_not_see
     assert last <= line.counter <= last + 20 * MILLISECOND // TICK
 
 
+def test_a_setting_is_noted_as_soon_as_a_frame_shows_it(unit: Clocks) -> None:
+    """A recording may end with that frame, ahead of the moment at which the setting is told; then it is noted again."""
+    unit.start()
+    unit.wait(SECOND, 2 * SECOND)
+    counter = unit.counter(unit.frame())
+    (early,) = unit.noted()
+    assert unit.lines() == [] and early["setting"] == 1 and early["set_by"] == "2.000000000"
+    assert counter - MILLISECOND // TICK <= early["counter"] <= counter
+    unit.frame(unit.wall() - 10 * MILLISECOND, interface=1)
+    assert unit.noted()[1]["counter"] == early["counter"] - 10 * MILLISECOND // TICK
+    assert len(unit.look(SECOND)) == 1 and unit.noted()[2] == unit.noted()[1]
+
+
 def test_a_setting_is_told_from_a_millisecond_before_the_first_frame_that_shows_it(unit: Clocks) -> None:
     """Another interface's frame may have come a little sooner, and still wait."""
     unit.start()

@@ -1,6 +1,5 @@
 """Counters that begin at 0 again while frames are captured, and the origins that are noted (capture/src/clock.c)."""
 
-import json
 import random
 from typing import Any
 
@@ -32,13 +31,8 @@ def test_a_setting_before_counters_begin_at_0_again_holds_after_it_too(unit: Clo
 def test_an_event_has_the_origin_the_counter_and_by_how_much_the_clock_was_set(unit: Clocks) -> None:
     unit.start()
     (line,) = unit.look(SECOND, -2 * SECOND, is_end=True)
-    event = {"origin": seconds(line.origin), "counter": line.counter, "set_by": "-2.000000000", "scale": None}
-    assert json.loads(unit.path.read_text()) == event
-
-
-def noted(unit: Clocks) -> list[dict[str, Any]]:
-    """The origins that are noted, in order."""
-    return [json.loads(it) for it in unit.path.read_text().splitlines()]
+    event: dict[str, Any] = {"origin": seconds(line.origin), "counter": line.counter, "set_by": "-2.000000000"}
+    assert unit.noted() == [{**event, "setting": 1, "scale": None}]
 
 
 def test_each_origin_has_the_scale_that_is_known_by_then(unit: Clocks) -> None:
@@ -48,7 +42,7 @@ def test_each_origin_has_the_scale_that_is_known_by_then(unit: Clocks) -> None:
     unit.ask("origin")
     unit.look(10 * MILLISECOND, 5 * SECOND, is_end=True)
     unit.look(2 * SECOND)
-    first, setting, *turned = noted(unit)
+    first, setting, *turned = unit.noted()
     assert first == {"origin": seconds(unit.origin), "counter": 0, "scale": "UTC"}
     assert (setting["set_by"], setting["scale"]) == ("5.000000000", "UTC")
     assert len(turned) > 1 and {it["scale"] for it in turned} == {"UTC"}
@@ -62,20 +56,20 @@ def test_an_origin_is_noted_again_once_frames_have_shown_their_scale(unit: Clock
     for _ in range(3):
         unit.look(SECOND)
     at_0: dict[str, Any] = {"origin": seconds(unit.origin), "counter": 0}
-    assert noted(unit) == [{**at_0, "scale": None}, {**at_0, "scale": "TAI", "tai_offset": 37}]
+    assert unit.noted() == [{**at_0, "scale": None}, {**at_0, "scale": "TAI", "tai_offset": 37}]
     unit.ask("utc")
     unit.look(SECOND)
-    assert noted(unit)[2:] == [{**at_0, "scale": None}]
+    assert unit.noted()[2:] == [{**at_0, "scale": None}]
 
 
 def test_a_scale_that_shows_after_counters_began_at_0_again_is_of_those_before_too(unit: Clocks) -> None:
     unit.start(before=TURN - 2 * SECOND)
     unit.ask("origin")
     unit.look(2 * SECOND)
-    before = noted(unit)[1:]
+    before = unit.noted()[1:]
     unit.ask("tai", 38)
     unit.look(SECOND)
-    assert noted(unit)[len(before) + 1 :] == [{**it, "scale": "TAI", "tai_offset": 38} for it in before]
+    assert unit.noted()[len(before) + 1 :] == [{**it, "scale": "TAI", "tai_offset": 38} for it in before]
 
 
 def test_origins_of_a_clock_that_runs_tai_stay_so_when_counters_begin_at_0_again(unit: Clocks) -> None:
@@ -83,7 +77,7 @@ def test_origins_of_a_clock_that_runs_tai_stay_so_when_counters_begin_at_0_again
     unit.ask("tai", 37)
     unit.ask("origin")
     unit.look(3 * SECOND)
-    found = noted(unit)
+    found = unit.noted()
     assert len(found) == 3 and all((it["scale"], it["tai_offset"]) == ("TAI", 37) for it in found)
 
 

@@ -6,7 +6,7 @@ Frames have a stamp by the wall clock, and get the moment that it would have sai
 import json
 import re
 from pathlib import Path
-from typing import NamedTuple, Optional
+from typing import Any, NamedTuple, Optional
 
 from c_units import Script, Units
 from support import MILLISECOND, SECOND, nanoseconds
@@ -87,10 +87,16 @@ class Clocks(Script):
         found = [LINE.fullmatch(it) for it in self.new_lines()]
         return [Line(nanoseconds(it[1], it[2]), int(it[3]), it[4]) for it in found if it]
 
+    def noted(self) -> list[dict[str, Any]]:
+        """The origins that are noted, in order."""
+        return [json.loads(it) for it in self.path.read_text().splitlines()]
+
     def judge_times(self, taken: list[tuple[int, int]]) -> None:
         """By the last origin that is noted and holds, frames have the times of their stamps, to a millisecond."""
-        noted = [json.loads(it) for it in self.path.read_text().splitlines()]
-        origins = [(self.origin, 0)] + [(nanoseconds(*it["origin"].split(".")), it["counter"]) for it in noted]
+        noted = self.noted()
+        last = {it.get("setting"): place for place, it in enumerate(noted)}
+        counted = [it for place, it in enumerate(noted) if "setting" not in it or last[it["setting"]] == place]
+        origins = [(self.origin, 0)] + [(nanoseconds(*it["origin"].split(".")), it["counter"]) for it in counted]
         for counter, stamp in taken:
             origin = [origin for origin, holds in origins if holds <= counter][-1]
             assert abs(origin + counter * TICK - stamp) <= MILLISECOND, (counter, stamp, origins)

@@ -39,7 +39,7 @@ show 'bin/bpfrec dis bin/arp.txt'
 show 'bin/bpfrec run bin/arp.txt ffffffffffff0200000000010806'
 show 'bin/bpfrec verify examples/jump_out.txt || true'
 echo "# two channels: the frames of the second one come in live, through a pipe"
-show "sed 's|examples/feeds/two.feed|bin/live.feed|' examples/flight.toml > bin/demo.toml"
+show "sed 's|examples/feeds/two.feed|bin/live.feed|' examples/feeds.toml > bin/demo.toml"
 show 'rm -f bin/live.feed bin/lines bin/demo.ch11 && mkfifo bin/live.feed bin/lines'
 show 'bin/bpfrec record bin/demo.toml bin/demo.ch11 < bin/lines > bin/report 2> bin/answers &'
 show 'exec 3> bin/lines 4> bin/live.feed'

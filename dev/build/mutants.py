@@ -191,7 +191,7 @@ def made_in(top: Path, paths: list[str]) -> dict[str, str]:
     """Makes in a copy what is made of these files: the programs, by their variables; ValueError where it fails."""
     programs = {it.upper(): str(own_program(it)) for it in ("bpfrec", "capture")}
     for path in paths:
-        if path.endswith(".py") or path.startswith("host/bin/"):
+        if path.endswith(".py") or path == "host/tool":
             ast.parse((top / path).read_text(encoding="utf-8"))
     if any(it.startswith("crates/") for it in paths):
         programs["BPFREC"] = str(top / "bpfrec")

@@ -1,9 +1,7 @@
 #!/usr/bin/env python3
-"""Compares docs/user/COMMANDS.md with the program's help and the tools' arguments; --write writes its tables.
-
-With PROGRAM, as bin/bpfrec, it also looks whether the help that it prints is the help that stands in the source, of
-which the manual page and the completions are made: each command, its words and its text. The status is 1 where
-something differs.
+"""Looks whether the help that PROGRAM prints, as bin/bpfrec, is the help that stands in the source, of which the manual
+pages are made: each command, its words and its text. Without PROGRAM it looks whether each page can be made, and
+whether each verb of the program is one of `bpfrec --help`. The status is 1 where something differs.
 """
 import argparse
 import os
@@ -17,9 +15,11 @@ sys.dont_write_bytecode = True
 sys.path.insert(0, str(Path(__file__).resolve().parents[1] / "package"))
 import help_texts
 import make_texts
-from commands_page import with_tables
+from bpfrec_host import VERSION
+from manual_page import proved_verbs
 
-COMMANDS = help_texts.ROOT / "docs/user/COMMANDS.md"
+# The commands that no verb is: `bpfrec --version` is the one, and `bpfrec export` of the tools has the words of the other.
+UNLISTED = {"version", "export"}
 
 
 def printed_otherwise(program: str) -> Iterator[str]:
@@ -49,21 +49,20 @@ def printed(program: str, *words: str) -> str:
 def main() -> int:
     parser = argparse.ArgumentParser(description=__doc__, formatter_class=argparse.RawDescriptionHelpFormatter)
     parser.add_argument("program", nargs="?", metavar="PROGRAM", help="bin/bpfrec, whose help is compared too")
-    parser.add_argument("--write", action="store_true", help="writes the tables of docs/user/COMMANDS.md")
     words = parser.parse_args()
     if words.program and not shutil.which(words.program):
         parser.error(f"{words.program} is no program")
     make_texts.texts()  # that each can be made
-    page = with_tables(COMMANDS.read_text())
-    if words.write:
-        COMMANDS.write_text(page)
+    source = help_texts.Help()
     wrong = []
-    if page != COMMANDS.read_text():
-        wrong.append("docs/user/COMMANDS.md isn't of the help: dev/checks/page.py --write makes it so")
+    if differing := {it.name for it in source.commands} ^ {*proved_verbs(), *UNLISTED}:
+        wrong.append(f"verbs of the program or of bpfrec --help alone: {' '.join(sorted(differing))}")
+    if source.version != VERSION:
+        wrong.append(f"the tools have the version {VERSION}, and the program {source.version}")
     if words.program:
         printed_texts = printed_otherwise(words.program)
         wrong += [f"{words.program} prints other help than its source has: {it}" for it in printed_texts]
-    print("\n".join(wrong) or "COMMANDS.md is of the program's help and the tools' arguments")
+    print("\n".join(wrong) or "all verbs and pages are those of the help")
     return 1 if wrong else 0
 
 

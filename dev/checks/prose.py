@@ -107,8 +107,10 @@ def refused_in(text: str, patterns: Refused) -> Iterator[str]:
 
 
 def man_text() -> str:
-    """The running text of the page bpfrec(1), without examples."""
-    text = re.sub(r"(?s)\n\.nf\n.*?\n\.fi(?=\n)", "\n\n", manual_page.page(help_texts.Help()))
+    """The running text of the page bpfrec(1) and of the proved verbs' pages, without examples."""
+    made = manual_page.pages(help_texts.Help())
+    names = ["bpfrec.1", *(f"bpfrec-{it}.1" for it in manual_page.proved_verbs())]
+    text = re.sub(r"(?s)\n\.nf\n.*?\n\.fi(?=\n)", "\n\n", "\n".join(made[it] for it in names))
     # What stands beside a name is a note, as a cell of a table.
     text = re.sub(r"(?s)(?<=\n)\.TP\n.*?(?=\n\.[A-Z])", lambda found: found[0].replace(";", "\n\n"), text)
     text = re.sub(r"(?m)^\.(?:B|I|BR|IR) ?", "", text)
@@ -162,7 +164,13 @@ def strings_in(file: Path) -> Iterator[tuple[int, str]]:
 
 def printed() -> Iterator[tuple[Path, int, str]]:
     """Each string that is printed, with its file and its line."""
-    python = ["host/**/*.py", "host/bin/*", "capture/tests/*.py", "dev/tests/*.py", "dev/trials/**/*.py"]
+    python = [
+        "host/**/*.py",
+        "host/tool",
+        "capture/tests/*.py",
+        "dev/tests/*.py",
+        "dev/trials/**/*.py",
+    ]
     patterns = [*python, "capture/src/*.[ch]", "**/Makefile"]
     for file in sorted(it for pattern in patterns for it in ROOT.glob(pattern) if it.is_file()):
         yield from ((file, *it) for it in strings_in(file))

@@ -45,7 +45,7 @@ class Tool(NamedTuple):
 def files() -> list[str]:
     """The files of the repository."""
     listed = subprocess.run(["git", "ls-files"], cwd=ROOT, check=True, text=True, stdout=subprocess.PIPE).stdout
-    return [it for it in listed.splitlines() if (ROOT / it).is_file()]
+    return [it for it in listed.splitlines() if (ROOT / it).is_file() and not (ROOT / it).is_symlink()]
 
 
 def first_line(file: str) -> bytes:

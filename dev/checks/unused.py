@@ -3,8 +3,8 @@
 
 - A definition or a lemma of specs/ or proofs/ is used where an item other than itself names it, in any
   crate; an import alone is no use.
-- A public function of a library is used where another file calls it, tests left out; laws, which run
-  nothing, are no calls, and OFFERED has those that are there for others.
+- A public function, type or trait of a library is used where another file names it, tests and `bench` left out;
+  laws, which run nothing, are no calls, and OFFERED has those that are there for others.
 - A public word of specs/ stands in one crate: of one that stands in two, each reader of a clause would
   have to look which is meant.
 
@@ -35,17 +35,21 @@ CLAUSE = re.compile(r"(?!(?:module|ruleset|abbrev|pub)\b)([^\W\d][\w'-]*) [^:]*=
 OTHER_LINES = ("use ", "pub use ", "pub mod ", "mod ", "infix", "--")
 # The files of proofs whose items the prover names itself.
 GOALS = ("Answers", "Invariants", "Proof", "Checks")
-CALL = re.compile(r"^ *pub (?:const )?fn (\w+)")
-# Libraries that are there for tests and pages alone.
-FOR_TESTS = {"test_samples", "test_callers", "test_whole"}
-# Libraries that stand ahead of the commands that will call them.
-AHEAD: set[str] = set()
+CALL = re.compile(r"^ *pub (?:(?:const )?fn|struct|enum|trait|type) (\w+)")
+# What is there for tests, pages and measurements alone.
+FOR_TESTS = {"test_samples", "test_callers", "test_whole", "test_buffers", "test_theorem", "bench"}
+# Libraries that stand ahead of the command that will call them.
+AHEAD = {"ch11_moved"}
 # Public calls that the program makes no use of, and what they are there for.
 OFFERED = {
     "run_world": "the core, driven by a list of events: the theorem is stated of it",
     "frame_at": "a single frame of a body, for a reader that wants no others",
     "into_before": "the packets before a fault, for a reader of a recording that is held whole",
-    "setup_of": "what is said of a Chapter 11 file, for the command that will write one",
+    "check_path": "whether a path that the verifier names shows its fault, for who doubts it",
+    "knows": "whether a writer has a channel, for who gives it pieces of several",
+    "RecordFault": "the fault of a call; who calls it has no word for it",
+    "UpgradeFault": "the fault of a call; who calls it has no word for it",
+    "NoMemory": "the fault of a call; who calls it has no word for it",
 }
 
 
@@ -101,7 +105,7 @@ def unused_definitions(items: list[Item], code: Code) -> Iterator[Place]:
 
 
 def unused_calls(code: Code) -> Iterator[Place]:
-    """The public functions of libraries that no other file calls, but for laws and what is offered."""
+    """What libraries have in public that no other file names, but for laws and what is offered."""
     tests = {it for it in crates() if crates()[it].has_tests()} | FOR_TESTS
     callers = [(file, words) for file, words in code if crate_of(file) not in tests]
     for file, _ in code:
@@ -113,7 +117,7 @@ def unused_calls(code: Code) -> Iterator[Place]:
 
 
 def calls_in(file: Path) -> Iterator[tuple[int, str]]:
-    """The public functions of a file that are no laws: a law's doc begins with "Law"."""
+    """What a file has in public but laws: a law's doc begins with "Law"."""
     doc = ""
     for at, line in enumerate(file.read_text().split("\n"), 1):
         call = CALL.match(line)
@@ -139,7 +143,7 @@ def main() -> int:
     items, code = list(definitions()), list(code_words())
     found = [
         *((it, "nothing names it") for it in unused_definitions(items, code)),
-        *((it, "nothing but tests calls it") for it in unused_calls(code)),
+        *((it, "nothing but tests names it") for it in unused_calls(code)),
         *((it, "another crate has this word too") for it in sorted(doubles(items), key=lambda item: item[2])),
     ]
     for (file, at, name), reason in found:

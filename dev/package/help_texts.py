@@ -1,7 +1,6 @@
 """What the program's help and the arguments of the tools say, as they stand in their sources."""
 from __future__ import annotations
 
-import ast
 import importlib
 import re
 import sys
@@ -13,10 +12,11 @@ from typing import NamedTuple
 ROOT = Path(__file__).resolve().parents[2]
 sys.path.insert(0, str(ROOT / "host"))
 from bpfrec_host.__main__ import TOOLS as PYTHON_TOOLS
+from bpfrec_host.arguments import Parser
 
 COMMANDS, HELP = ROOT / "crates/rec_words/src/command_line.rt", ROOT / "crates/rec_words/src/command_line/help.rt"
 FORMATS = [ROOT / f"docs/user/formats/{it}.md" for it in ("filters", "recording")]
-CAPTURE, CHECKS = ROOT / "capture/src/usage.c", ("check_sums", "check_ch10")
+CAPTURE = ROOT / "capture/src/usage.c"
 
 
 class Word(NamedTuple):
@@ -31,30 +31,9 @@ class Command(NamedTuple):
     words: list[Word]
 
 
-class Tool(NamedTuple):
-    """A tool beside the program: what it does, its uses, its options, and the kinds of files that it takes."""
-
-    about: str
-    uses: list[str]
-    options: list[str]
-    kinds: list[str]
-
-
-ABOUT_CAPTURE = "makes feeds of interfaces, as their frames come, and of captures"
-# The files that a word of a tool is.
-WORD_KINDS = {"SETTINGS": "toml", "OUT": "ch11", "RECORDING": "ch11", "DAMAGED": "ch11"}
-
-
-def tools() -> dict[str, Tool]:
-    """The tools by their names: those in Python as their parsers have them."""
-    found = {}
-    for name, tool in PYTHON_TOOLS.items():
-        parser = importlib.import_module(tool.module).parser()
-        uses = uses_in(parser.format_usage(), parser.prog)
-        found[name] = Tool(tool.about, uses, list(dict.fromkeys([*options_of(parser), "--help"])), kinds_of(uses[0]))
-    uses = uses_in(capture_text(), "capture")
-    found["capture"] = Tool(ABOUT_CAPTURE, uses, options_in(CAPTURE), kinds_of(uses[0]))
-    return found
+def parsers() -> dict[str, Parser]:
+    """The parsers of the tools in Python, by their verbs."""
+    return {name: importlib.import_module(module).parser() for name, module in PYTHON_TOOLS.items()}
 
 
 def uses_in(text: str, name: str) -> list[str]:
@@ -62,51 +41,6 @@ def uses_in(text: str, name: str) -> list[str]:
     first = text.partition("\n\n")[0].removeprefix("usage: ")
     uses = [" ".join(it.split()) for it in re.split(rf"(?:^|\n +){re.escape(name)} ", first) if it]
     return [it.removeprefix("[-h] ").replace("...", "..") for it in uses]
-
-
-def options_of(parser: ArgumentParser) -> Iterator[str]:
-    """The commands and the long options of a parser and of its commands, but for help."""
-    for action in parser._actions:
-        if isinstance(action.choices, dict):
-            yield from action.choices
-            for command in action.choices.values():
-                yield from options_of(command)
-        yield from (it for it in action.option_strings if it.startswith("--") and it != "--help")
-
-
-def options_in(file: Path) -> list[str]:
-    """The options that a tool takes, as its source has them: each begins a line of a help text in C."""
-    text = file.read_text()
-    labels = re.findall(r'^ {4}"  (-\S+)', text, re.MULTILINE)
-    found = dict.fromkeys(it for label in labels for it in re.findall(r"--[a-z-]+", label) if it != "--help")
-    return [*(["-r"] if "] -r FILE" in text else []), *found, "--help"]
-
-
-def kinds_of(words: str) -> list[str]:
-    """The endings of the files that the words of a tool are."""
-    return [WORD_KINDS[it] for it in re.findall(r"[A-Z]+", words) if it in WORD_KINDS]
-
-
-# Which files a word of a command takes, by what its help says of it: the first that fits.
-KINDS = [
-    ("recording", "ch11"),
-    ("chapter 11 file", "ch10"),
-    ("times of counters", "toml"),
-    ("feed that", "feed"),
-    ("pcapng file", "pcapng"),
-    ("seconds", None),
-    ("listing", "txt"),
-    ("filter in the text", "bpf"),
-    ("script", "script"),
-    ("feeds and filters", "toml"),
-    ("number", None),
-    ("hexadecimal", None),
-]
-
-
-def kind_of(word: Word) -> str | None:
-    """The ending of the files that a word takes; nothing where it takes none, and `*` where it isn't known."""
-    return next((kind for said, kind in KINDS if said in word.help.lower()), "*")
 
 
 def string_of(literal: str) -> str:
@@ -139,14 +73,8 @@ def parser_texts(parser: ArgumentParser) -> Iterator[tuple[str, str]]:
 def tool_texts() -> Iterator[tuple[str, str]]:
     """The help of all tools and of their commands: what it is called by, and its texts."""
     yield "capture --help", capture_text().partition("\n\n")[2]
-    for name in CHECKS:
-        text = (ROOT / "host/bin" / name).read_text()
-        yield f"host/bin/{name} --help", ast.get_docstring(ast.parse(text)) or ""
-    for tool in PYTHON_TOOLS.values():
-        yield from parser_texts(importlib.import_module(tool.module).parser())
-
-
-TOOLS = tools()
+    for parser in parsers().values():
+        yield from parser_texts(parser)
 
 
 class Help:

@@ -4,15 +4,15 @@ set -euo pipefail
 
 usage='usage: PREFIX=.. DESTDIR=.. dev/package/install.sh [--uninstall]
 
-Installs bin/bpfrec and what else make build makes there, and bin/capture, where it is built, below PREFIX (/usr/local
-by default): programs in bin/, the tools in libexec/bpfrec/ with links in bin/ (bpfrec-convert, bpfrec-info and so on;
-those in Python are one file, bpfrec-host.pyz), the page bpfrec(1), completions for bash, zsh and fish, examples
-and documents in share/doc/bpfrec/, a unit for systemd in lib/systemd/system/, and the plugin for Wireshark in
-share/bpfrec/, with a link in the folder of plugins that tshark names, or else in Debian'"'"'s. The Python package bpfrec
-goes into the folder below PREFIX in which the system'"'"'s Python looks, or else into lib/python3/dist-packages. What
-stands in DESTDIR, if it is set, is put ahead of PREFIX. With --uninstall all of it is removed, and the folders that
-only it has. ZSH names another folder than share/zsh/site-functions, WIRESHARK another folder of plugins, and
-PYTHON_PACKAGES another one of Python'"'"'s packages, below PREFIX.
+Installs below PREFIX (/usr/local by default) the command in bin/bpfrec, and what it runs in libexec/bpfrec/: bin/bpfrec
+and what else make build makes there, bin/capture, where it is built, and the tools in Python as one file. With them go
+the manual pages, completions for bash, zsh and fish, examples and documents in share/doc/bpfrec/, a unit for systemd in
+lib/systemd/system/, and the plugin for Wireshark in share/bpfrec/, with a link in the folder of plugins that tshark
+names, or else in Debian'"'"'s. The Python package bpfrec goes into the folder below PREFIX in which the system'"'"'s Python
+looks, or else into lib/python3/dist-packages. What stands in DESTDIR, if it is set, is put ahead of PREFIX. With
+--uninstall all of it is removed, and the folders that only it has. ZSH names another folder than
+share/zsh/site-functions, WIRESHARK another folder of plugins, and PYTHON_PACKAGES another one of Python'"'"'s packages,
+below PREFIX.
 
 Status: 0 done, 2 wrong arguments, 3 something to install is missing or not proved, else that of the command that
 failed.'
@@ -22,9 +22,6 @@ cd "$(dirname "$0")/../.." || exit 3
 umask 022
 PREFIX=${PREFIX:-/usr/local} DESTDIR=${DESTDIR:-} ZSH=${ZSH:-share/zsh/site-functions}
 to=$DESTDIR$PREFIX
-# The tools in Python, and all.
-tools=(live chapter11 control convert follow info pcapng preflight publish receive salvage)
-names=(capture "${tools[@]}")
 
 # The folder below PREFIX in which Python looks for packages.
 python_folder() {
@@ -42,13 +39,16 @@ python_packages=$(python_folder)
 # Each file, as its mode, where it stands here or what it is made of, and where it goes.
 files() {
     local file at
-    echo "755 bin/bpfrec bin/bpfrec"
-    echo "755 bin/capture libexec/bpfrec/bpfrec-capture"
-    echo "755 host/bpfrec_host libexec/bpfrec/bpfrec-host.pyz"
-    echo "644 bin/bpfrec.1 share/man/man1/bpfrec.1"
-    echo "644 bin/completions/bpfrec.bash share/bash-completion/completions/bpfrec"
-    echo "644 bin/completions/_bpfrec $ZSH/_bpfrec"
-    echo "644 bin/completions/bpfrec.fish share/fish/vendor_completions.d/bpfrec.fish"
+    echo "755 host/bin/bpfrec bin/bpfrec"
+    echo "755 bin/bpfrec libexec/bpfrec/bpfrec"
+    echo "755 bin/capture libexec/bpfrec/capture"
+    echo "755 host/bpfrec_host libexec/bpfrec/tool"
+    for file in bin/man/*.1; do
+        echo "644 $file share/man/man1/${file##*/}"
+    done
+    echo "644 dev/package/completions/bpfrec.bash share/bash-completion/completions/bpfrec"
+    echo "644 dev/package/completions/_bpfrec $ZSH/_bpfrec"
+    echo "644 dev/package/completions/bpfrec.fish share/fish/vendor_completions.d/bpfrec.fish"
     echo "644 bin/bpfrec.lua share/bpfrec/bpfrec.lua"
     python_files | while read -r file; do
         echo "644 host/$file $python_packages/$file"
@@ -66,22 +66,6 @@ files() {
 # The files of the Python package, which need Python to be found.
 python_files() {
     [[ ! -x /usr/bin/python3 ]] || /usr/bin/python3 -I dev/package/python_files.py
-}
-
-# file_of NAME: the file that is a tool
-file_of() {
-    [[ " ${tools[*]} " == *" $1 "* ]] && echo bpfrec-host.pyz || echo "bpfrec-$1"
-}
-
-# Each link, as where it leads and where it stands.
-links() {
-    local name
-    for name in "${names[@]}"; do
-        echo "../libexec/bpfrec/$(file_of "$name") bin/bpfrec-$name"
-        echo "bpfrec.1 share/man/man1/bpfrec-$name.1"
-        echo "bpfrec share/bash-completion/completions/bpfrec-$name"
-        echo "bpfrec.fish share/fish/vendor_completions.d/bpfrec-$name.fish"
-    done
 }
 
 # The folder in which Wireshark looks for plugins of all users.
@@ -102,16 +86,8 @@ install_plugin() {
     fi
 }
 
-# What an installation from before had, and none has any more.
-remove_old() {
-    local name
-    rm -f "$to"/libexec/bpfrec/{ch11.py,facts.py,bpfrec-feed,bpfrec-info,bpfrec-live,bpfrec-preflight,bpfrec-salvage} \
-        "$to"/share/doc/bpfrec/FORMATS.md
-    for name in bin/bpfrec-feed share/man/man1/bpfrec-feed.1 share/bash-completion/completions/bpfrec-feed \
-        share/fish/vendor_completions.d/bpfrec-feed.fish; do
-        rm -f "$to/$name"
-    done
-    # Modules that it had once, and what Python compiled of others.
+# The modules of the Python package from before, and what Python compiled of them.
+remove_modules() {
     rm -rf "$to/$python_packages/bpfrec" "$to/$python_packages/bpfrec_host"
 }
 
@@ -123,7 +99,7 @@ is_proved() {
 # install_host MODE FILE: makes the file of the tools in Python
 install_host() {
     if [[ ! -x /usr/bin/python3 ]]; then
-        echo "/usr/bin/python3 is missing, so ${tools[*]/#/bpfrec-} and the package bpfrec aren't installed"
+        echo "/usr/bin/python3 is missing, so the tools and the package bpfrec aren't installed"
         return
     fi
     install -d "$(dirname "$2")"
@@ -140,14 +116,14 @@ install_all() {
     elif ! is_proved bin/bpfrec; then
         echo "bin/bpfrec wasn't built from its proof, so it isn't installed: make build makes one that was" >&2
         exit 3
-    elif [[ ! -f bin/bpfrec.lua ]]; then
-        echo "bin/bpfrec.lua is missing: make texts makes it, with the manual page and the completions" >&2
+    elif [[ ! -f bin/man/bpfrec.1 ]]; then
+        echo "bin/man/bpfrec.1 is missing: make texts makes the manual pages and the plugin" >&2
         exit 3
     fi
-    remove_old
+    remove_modules
     while read -r mode from at; do
         if [[ $from == bin/capture && ! -x $from ]]; then
-            echo "bin/capture isn't built, so bpfrec-capture isn't installed and bpfrec-live can't record interfaces"
+            echo "bin/capture isn't built, so it isn't installed, and bpfrec live can't record interfaces"
         elif [[ $from == host/bpfrec_host ]]; then
             install_host "$mode" "$to/$at"
         else
@@ -155,31 +131,22 @@ install_all() {
         fi
     done < <(files)
     # The unit runs what is installed, and its settings name the installed listings by whole paths.
-    sed -i -e "s|/opt/bpfrec/host/bin/live|$PREFIX/bin/bpfrec-live|" -e 's|host/bin/live|bpfrec-live|g' \
-        -e '/^# It takes the repository at/d' -e "s|examples/wire.toml|$PREFIX/share/doc/bpfrec/&|" \
-        "$to/lib/systemd/system/bpfrec.service"
-    sed -i -e "s|\"examples/|\"$PREFIX/share/doc/bpfrec/examples/|" -e 's|host/bin/live|bpfrec-live|' \
-        "$to/share/doc/bpfrec/examples/wire.toml"
-    while read -r from at; do
-        [[ $from == */libexec/* && ! -e $to/bin/$from ]] || ln -sfn "$from" "$to/$at"
-    done < <(links)
+    sed -i -e "s|/opt/bpfrec/host/bin/|$PREFIX/bin/|" -e '/^# It takes the repository at/d' \
+        -e "s|examples/wire.toml|$PREFIX/share/doc/bpfrec/&|" "$to/lib/systemd/system/bpfrec.service"
+    sed -i "s|\"examples/|\"$PREFIX/share/doc/bpfrec/examples/|" "$to/share/doc/bpfrec/examples/wire.toml"
     install_names
     install_plugin
 }
 
 # The installed documents name the installed commands and folders.
 install_names() {
-    local file tool work
+    local file work
     work="in a folder with \`examples\`, a copy of $PREFIX/share/doc/bpfrec/examples, and an empty \`bin\`"
     for file in "$to"/share/doc/bpfrec/{*,formats/*,using/*}.md; do
         sed -i '/^<!-- source tree -->$/,/^<!-- end -->$/d; s/<!--[A-Z_]*-->//g; /^<!-- .* -->$/d; s| (`bench/RESULTS.md`)||g' "$file"
-        sed -i "/^sudo /s#bin/capture#$PREFIX/libexec/bpfrec/bpfrec-capture#g" "$file"
-        for tool in "${tools[@]}"; do
-            sed -i "s|host/bin/$tool\\b|bpfrec-$tool|g" "$file"
-        done
+        sed -i "s|bin/capture\b|$PREFIX/libexec/bpfrec/capture|g" "$file"
         sed -i "s|bin/bpfrec.lua|$PREFIX/share/bpfrec/bpfrec.lua|g" "$file"
-        sed -Ei -e "s#(^|[^/[:alnum:]])bin/(bpfrec)([^-_/[:alnum:]]|\$)#\\1\\2\\3#g" \
-            -e 's#\bbin/capture\b#bpfrec-capture#g' -e 's#docs/user/##g' "$file"
+        sed -Ei -e "s#(^|[^/[:alnum:]])bin/(bpfrec)([^-_/.[:alnum:]]|\$)#\\1\\2\\3#g" -e 's#docs/user/##g' "$file"
         sed -i -e "s|/usr/local/share/|$PREFIX/share/|g" \
             -e "s|examples/bpfrec.service|$PREFIX/lib/systemd/system/bpfrec.service|g" \
             -e "s|/usr/local/libexec/|$PREFIX/libexec/|g" \
@@ -189,13 +156,10 @@ install_names() {
 
 uninstall_all() {
     local mode from at
-    remove_old
+    remove_modules
     while read -r mode from at; do
         rm -f "$to/$at"
     done < <(files)
-    while read -r from at; do
-        rm -f "$to/$at"
-    done < <(links)
     at=$DESTDIR$(plugins)/bpfrec.lua
     [[ ! -L $at ]] || rm -f "$at"
     for at in share/doc/bpfrec/examples/{filters,feeds} share/doc/bpfrec/{examples,formats,using} share/doc/bpfrec \

@@ -5,9 +5,9 @@ set -euo pipefail
 usage='usage: dev/package/make_deb.sh
 
 Makes bin/bpfrec_<version>_<architecture>.deb, bin/bpfrec-tools_<version>_<architecture>.deb and
-bin/python3-bpfrec_<version>_all.deb by dpkg-deb, of what dev/package/install.sh installs. The first has the program,
-which needs the C library alone, with its page, completions and documents. The second has bpfrec-capture, the tools in
-Python, the unit for systemd and the plugin for Wireshark, and depends on what these need. The third has the Python
+bin/python3-bpfrec_<version>_all.deb by dpkg-deb, of what dev/package/install.sh installs. The first has the command and the
+program, which needs the C library alone, with pages and documents. The second has the capture, the tools in Python,
+completions, the unit for systemd and the plugin for Wireshark, and depends on what these need. The third has the Python
 package bpfrec, which needs Python alone. It needs bin/bpfrec (make build), bin/capture (make capture), and Debian'"'"'s dpkg and
 binutils. Programs are stripped. The same sources and programs make the same bytes: all times are SOURCE_DATE_EPOCH, by
 default that of the last commit. MAINTAINER names another maintainer.
@@ -46,8 +46,7 @@ move_python() {
 # Moves what of an installation is the tools' into the folder of their package.
 move_tools() {
     cd "$root/bpfrec/usr" || return
-    local found=(bin/bpfrec-* libexec lib share/bpfrec share/man/man1/bpfrec-* share/fish/vendor_completions.d/bpfrec-*
-        share/bash-completion/completions/bpfrec-*)
+    local found=(libexec/bpfrec/{tool,capture} lib share/bpfrec share/fish share/zsh share/bash-completion)
     cp -a --parents "${found[@]}" "$root/bpfrec-tools/usr"
     rm -r "${found[@]}"
 }
@@ -105,12 +104,8 @@ END
 mkdir -p "$root/bpfrec" "$root/bpfrec-tools/usr"
 DESTDIR=$root/bpfrec PREFIX=/usr ZSH=share/zsh/vendor-completions PYTHON_PACKAGES=lib/python3/dist-packages \
     dev/package/install.sh
-gzip -9n "$root/bpfrec/usr/share/man/man1/bpfrec.1"
-for link in "$root"/bpfrec/usr/share/man/man1/bpfrec-*.1; do
-    rm "$link"
-    ln -s bpfrec.1.gz "$link.gz"
-done
-strip --strip-unneeded "$root/bpfrec/usr/bin/bpfrec" "$root/bpfrec/usr/libexec/bpfrec/bpfrec-capture"
+gzip -9n "$root"/bpfrec/usr/share/man/man1/*.1
+strip --strip-unneeded "$root/bpfrec/usr/libexec/bpfrec"/{bpfrec,capture}
 move_python
 (move_tools)
 install -m 644 CHANGELOG.md "$root/bpfrec/usr/share/doc/bpfrec/CHANGELOG.md"

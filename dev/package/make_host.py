@@ -1,14 +1,16 @@
 #!/usr/bin/env python3
-"""Makes one file of the Python tools, host/bpfrec_host, which runs as the tool that it is called by the name of.
+"""Makes one file of the Python tools, host/bpfrec_host: `FILE info` runs the tool info, and so on.
 
-FILE is an archive that Python runs: a link to it, or a copy, with the name bpfrec-info is that tool, and so on; and
-`FILE info` is too. The same sources make the same bytes: the files stand by their names, and have one time.
+FILE is an archive that Python runs. Beside each module it has what this Python compiles of it, which another version
+passes over. The same sources make the same bytes: the files stand by their names, and have one time.
 
 Status: 0 made, 2 the arguments are wrong.
 """
 import argparse
 import io
+import py_compile
 import sys
+import tempfile
 import zipapp
 import zipfile
 from pathlib import Path
@@ -31,14 +33,25 @@ SUFFIXES = (".py", ".html")
 TIME, MODE = (1980, 1, 1, 0, 0, 0), 0o644 << 16
 
 
+def compiled(source: bytes, name: str) -> bytes:
+    """What Python compiles of a module, which it takes without a look at the source."""
+    with tempfile.TemporaryDirectory() as folder:
+        module, made = Path(folder) / "module.py", Path(folder) / "module.pyc"
+        module.write_bytes(source)
+        unchecked = py_compile.PycInvalidationMode.UNCHECKED_HASH
+        py_compile.compile(str(module), str(made), name, doraise=True, invalidation_mode=unchecked)
+        return made.read_bytes()
+
+
 def archive() -> io.BytesIO:
     """The archive of the package and of what calls it."""
     parts = [it for it in PACKAGE.rglob("*") if it.suffix in SUFFIXES]
-    files = {f"{PACKAGE.name}/{it.relative_to(PACKAGE)}": it.read_text(encoding="utf-8") for it in parts}
+    files = {f"{PACKAGE.name}/{it.relative_to(PACKAGE)}": it.read_bytes() for it in parts}
+    files |= {f"{name}c": compiled(text, name) for name, text in files.items() if name.endswith(".py")}
     made = io.BytesIO()
     # Not compressed, so that no version of a library is in its bytes.
     with zipfile.ZipFile(made, "w", zipfile.ZIP_STORED) as into:
-        for name, text in sorted({**files, "__main__.py": MAIN}.items()):
+        for name, text in sorted({**files, "__main__.py": MAIN.encode()}.items()):
             info = zipfile.ZipInfo(name, TIME)
             info.create_system, info.external_attr = 3, MODE
             into.writestr(info, text)

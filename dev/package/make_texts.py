@@ -1,17 +1,17 @@
 #!/usr/bin/env python3
-"""Makes in bin/ what stands beside the program: the manual page bpfrec.1, the completions of shells, and bpfrec.lua.
+"""Makes in bin/ what stands beside the program: the manual pages in man/, and bpfrec.lua.
 
-The page and the completions are made of the program's help, where it stands in the source, and of the tools' arguments,
-so nothing need be built. The plugin for Wireshark is made of host/wireshark/parts/: Wireshark loads each file of its
+The pages are made of the program's help, where it stands in the source, and of the tools' arguments, so nothing need be
+built. The plugin for Wireshark is made of host/wireshark/parts/: Wireshark loads each file of its
 folders of plugins by itself, so there is one.
 """
 import argparse
+import shutil
 import sys
 
 sys.dont_write_bytecode = True
-from completions import bash, fish, zsh
 from help_texts import ROOT, Help
-from manual_page import page
+from manual_page import pages
 
 PARTS = ROOT / "host/wireshark/parts"
 # In the order in which each uses those before it.
@@ -28,19 +28,16 @@ def plugin() -> str:
 
 def texts() -> dict[str, str]:
     """What is made, by the paths in bin/."""
-    said = Help()
-    return {
-        "bpfrec.1": page(said),
-        "completions/bpfrec.bash": bash(said),
-        "completions/_bpfrec": zsh(said),
-        "completions/bpfrec.fish": fish(said),
-        "bpfrec.lua": plugin(),
-    }
+    made = {f"man/{name}": text for name, text in pages(Help()).items()}
+    return {**made, "bpfrec.lua": plugin()}
 
 
 def main() -> int:
     argparse.ArgumentParser(description=__doc__, formatter_class=argparse.RawDescriptionHelpFormatter).parse_args()
-    for path, text in texts().items():
+    made = texts()
+    # A page of what is gone stays nowhere.
+    shutil.rmtree(ROOT / "bin/man", ignore_errors=True)
+    for path, text in made.items():
         (ROOT / "bin" / path).parent.mkdir(parents=True, exist_ok=True)
         (ROOT / "bin" / path).write_text(text)
     return 0

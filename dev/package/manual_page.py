@@ -1,12 +1,15 @@
-"""The page bpfrec(1), made of the program's help and of the tables of docs/user/formats/."""
+"""The manual pages: bpfrec(1), made of the list of verbs and of the tables of docs/user/formats/, and one of each verb, made of
+its help."""
+import argparse
 import re
 import textwrap
 from collections.abc import Iterator
 
-from help_texts import FORMATS, TOOLS, Help
+from bpfrec_host import verbs
+from help_texts import FORMATS, Command, Help, capture_text, parsers, uses_in
 
 # The day of the page's last change, which pages have.
-DATE = "2026-11-28"
+DATE = "2026-11-29"
 # The sections whose tables the page has, where the first column is one of these.
 SECTIONS = (
     "Listing",
@@ -121,41 +124,104 @@ def table_page(head: list[str], rows: list[list[str]]) -> list[str]:
     return found
 
 
+MADE = '.\\" Made by dev/package/make_texts.py of the help and of docs/user/formats/.'
+
+
+def joined(lines: list[str]) -> str:
+    """The lines of a page as a text; below a title no paragraph is begun anew."""
+    kept = [line for at, line in enumerate(lines) if line != ".PP" or not lines[at - 1].startswith((".SH", ".SS"))]
+    return "\n".join(kept) + "\n"
+
+
+def head(name: str, version: str, about: str) -> list[str]:
+    """How a page begins."""
+    title = f'.TH {name.upper()} 1 "{DATE}" "bpfrec {version}" "User Commands"'
+    return [MADE, title, ".SH NAME", f"{escaped(name)} \\- {escaped(about)}", ".SH SYNOPSIS"]
+
+
 def page(texts: Help) -> str:
-    found = [
-        ".\\\" Made by dev/package/make_texts.py of the program's help and of docs/user/formats/.",
-        f'.TH BPFREC 1 "{DATE}" "bpfrec {texts.version}" "User Commands"',
-        ".SH NAME",
-        "bpfrec \\- records Ethernet channels through filters, and reads the recordings",
-        ".SH SYNOPSIS",
-    ]
-    for at, command in enumerate(texts.commands):
-        words = " ".join(it.name for it in command.words)
-        found += [".br"] * bool(at) + [f".B bpfrec {command.name}"] + ([f".I {words}"] if words else [])
-    found += [".SH DESCRIPTION", *filled(escaped(texts.about)), *text_page(texts.statuses), ".SH COMMANDS"]
-    for command in texts.commands:
-        words = " ".join(it.name for it in command.words)
-        found += [f'.SS "bpfrec {command.name}{" " + words if words else ""}"', *filled(escaped(f"{command.about}."))]
-        for word in command.words:
-            found += item(f"\\fI{escaped(word.name)}\\fR", escaped(word.help))
-        found += text_page(command.help)
-    found += [
-        ".SH FORMATS",
-        *filled(
-            "The tables of the project's documents of formats, by their sections. "
-            "A number of several bytes has its lowest byte first."
-        ),
-    ]
+    """The page bpfrec(1)."""
+    found = head("bpfrec", texts.version, "records Ethernet channels through filters, and reads the recordings")
+    found += [".B bpfrec", ".I VERB ..", ".SH DESCRIPTION"]
+    found += [*filled(escaped(texts.about)), *text_page(texts.statuses), ".SH VERBS"]
+    found += filled("Each has a page, as bpfrec\\-audit(1). Those with * are proved, and the others are tested.")
+    for group, members in verbs.GROUPS.items():
+        found.append(f".SS {group}")
+        for name, verb in members.items():
+            found += item(f"{name}{' *' * verb.is_proved}", f"{escaped(verb.about)}: \\fB{escaped(verb.example)}\\fR")
+    found += [".SH FORMATS"]
+    found += filled("By their sections; a number of several bytes has its lowest byte first.")
     last = ""
-    for title, head, rows in tables():
+    for title, columns, rows in tables():
         found += [f'.SS "{inline(title)}"'] if title != last else [".PP"]
-        found += [*filled(", ".join(escaped(it) for it in head if it) + ":"), *table_page(head, rows)]
+        found += [*filled(", ".join(escaped(it) for it in columns if it) + ":"), *table_page(columns, rows)]
         last = title
-    found += [
-        ".SH TOOLS",
-        *filled("Beside the program, tested and not proved; each has a help text, by \\fB\\-\\-help\\fR."),
-    ]
-    for name, tool in TOOLS.items():
-        found += item(f"\\fBbpfrec\\-{name}\\fR \\fI{escaped(tool.uses[0])}\\fR", escaped(tool.about))
     found += [".SH SEE ALSO", ".BR tcpdump (1),", ".BR capinfos (1),", ".BR pcap\\-filter (7)"]
-    return "\n".join(found) + "\n"
+    return joined(found)
+
+
+def end(example: str) -> list[str]:
+    """How the page of a verb ends."""
+    return [".SH EXAMPLE", *literal([example]), ".SH SEE ALSO", ".BR bpfrec (1)"]
+
+
+def command_page(command: Command, version: str) -> str:
+    """The page of a verb of the proved program."""
+    words = " ".join(it.name for it in command.words)
+    found = head(f"bpfrec-{command.name}", version, command.about)
+    found += [f".B bpfrec {command.name}", *([f".I {words}"] if words else []), ".SH DESCRIPTION"]
+    found += text_page(command.help.partition("Example:\n")[0])
+    for word in command.words:
+        found += item(f"\\fI{escaped(word.name)}\\fR", escaped(word.help))
+    return joined(found + end(verbs.VERBS[command.name].example))
+
+
+def options_page(parser: argparse.ArgumentParser) -> Iterator[str]:
+    """The options of a parser, in its groups, and those of its commands."""
+    for group in parser._action_groups:
+        named = [it for it in group._group_actions if it.option_strings and it.help != argparse.SUPPRESS]
+        if named and group.title not in ("options", "optional arguments"):
+            yield f'.SS "{escaped(str(group.title))}"'
+        for action in named:
+            value = f" \\fI{escaped(str(action.metavar or action.dest))}\\fR" if action.nargs != 0 else ""
+            yield from item(f"\\fB{escaped(', '.join(action.option_strings))}\\fR{value}", escaped(action.help or ""))
+    for action in parser._actions:
+        for name, command in action.choices.items() if isinstance(action, argparse._SubParsersAction) else ():
+            yield f'.SS "{escaped(name)}"'
+            yield from text_page(command.description or "")
+            yield from options_page(command)
+            yield from text_page(command.epilog or "")
+
+
+def tool_page(name: str, parser: argparse.ArgumentParser, version: str) -> str:
+    """The page of a verb of the tools."""
+    verb = verbs.VERBS[name]
+    found = head(f"bpfrec-{name}", version, verb.about)
+    for at, use in enumerate(uses_in(parser.format_usage(), parser.prog)):
+        found += [".br"] * bool(at) + [f".B bpfrec {name}", f".I {escaped(use)}"]
+    found += [".SH DESCRIPTION", *text_page(parser.description or ""), ".SH OPTIONS", *options_page(parser)]
+    found += [".SH NOTES", *text_page(parser.epilog)] if parser.epilog else []
+    return joined(found + end(verb.example))
+
+
+def capture_page(version: str) -> str:
+    """The page of the capture."""
+    verb, text = verbs.VERBS["capture"], capture_text()
+    found = head("bpfrec-capture", version, verb.about)
+    for at, use in enumerate(uses_in(text, "capture")):
+        found += [".br"] * bool(at) + [".B bpfrec capture", f".I {escaped(use)}"]
+    return joined([*found, ".SH DESCRIPTION", *text_page(text.partition("\n\n")[2]), *end(verb.example)])
+
+
+def pages(texts: Help) -> dict[str, str]:
+    """All pages by the names of their files."""
+    found = {"bpfrec.1": page(texts), "bpfrec-capture.1": capture_page(texts.version)}
+    found |= {
+        f"bpfrec-{it.name}.1": command_page(it, texts.version) for it in texts.commands if it.name in proved_verbs()
+    }
+    return found | {f"bpfrec-{name}.1": tool_page(name, it, texts.version) for name, it in parsers().items()}
+
+
+def proved_verbs() -> list[str]:
+    """The verbs of the proved program."""
+    return [name for name, verb in verbs.VERBS.items() if verb.is_proved]

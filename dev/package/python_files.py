@@ -53,10 +53,14 @@ def modules() -> set[str]:
     return found
 
 
+def paths() -> list[Path]:
+    """All files of the package."""
+    return sorted([*map(file_of, modules()), HOST / PACKAGE / "py.typed"])
+
+
 def main() -> int:
     argparse.ArgumentParser(description=__doc__, formatter_class=argparse.RawDescriptionHelpFormatter).parse_args()
-    files = [*map(file_of, modules()), HOST / PACKAGE / "py.typed"]
-    print("\n".join(sorted(str(it.relative_to(HOST)) for it in files)))
+    print("\n".join(str(it.relative_to(HOST)) for it in paths()))
     return 0
 
 

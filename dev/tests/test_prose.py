@@ -52,11 +52,9 @@ def test_the_help_of_each_tool_is_read() -> None:
     names = [name for name, _ in prose.texts()]
     for name in (
         "capture",
-        "check_sums",
-        "check_ch10",
-        "convert",
-        "convert from-pcap",
-        "convert make",
+        "check",
+        "export",
+        "filter",
         "live",
         "preflight",
     ):

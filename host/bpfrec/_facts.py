@@ -33,7 +33,7 @@ class Mark(NamedTuple):
 
 
 class Facts(NamedTuple):
-    """The facts that `bpfrec-live` writes beside a recording; of a whole Chapter 11 file what its setup record and its
+    """The facts that `bpfrec live` writes beside a recording; of a whole Chapter 11 file what its setup record and its
     time packets say.
 
     `interfaces` has the name of each channel ID, and `losses` the frames that were `dropped`, `missed` and `skipped`

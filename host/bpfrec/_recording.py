@@ -17,6 +17,7 @@ from bpfrec._frame import Frame
 from bpfrec._records import Channel, End, Filter, is_program
 from bpfrec._sources import Part, Source, moment_of
 from bpfrec_host.formats.listing import listing_of
+from bpfrec_host.formats.runs import all_of
 from bpfrec_host.pcapng.index import Place
 from bpfrec_host.pcapng.marks import Order
 from bpfrec_host.pcapng.merging import last_moments
@@ -205,13 +206,14 @@ def open(path: Path, *more: Path, facts: Given = None, skip_damage: bool = False
     A file that is no recording is `bpfrec.NotARecording`, facts that are none are `bpfrec.BadFacts`, and a file that
     can't be read is an OSError.
 
+    `path` may be the name of a run, as flight.ch11, which is all its recordings, flight_00001.ch11 and so on.
     Several recordings are read as one, in one order by time. Those of one recorder that follow one another, by the host
     and the interfaces of their facts, have the same channels; a recording without facts has channels of its own. All
     must have facts, or none. Where channels of several recorders have the same ID, that of the recording given first
     keeps it, and each other one gets the lowest ID that no recording has; `recorded_as` of a channel is the one that it
     has in its recordings. A file that is given twice, by another name or link too, is a ValueError."""
-    paths = [os.fsdecode(it) for it in (path, *more)]
-    if more and facts not in (None, False, True):
+    paths = [found for it in (path, *more) for found in all_of(os.fsdecode(it))]
+    if len(paths) > 1 and facts not in (None, False, True):
         raise TypeError("facts names the facts of one recording; of several those beside each are taken")
     sources: list[Source] = []
     try:

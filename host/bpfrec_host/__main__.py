@@ -1,71 +1,56 @@
-"""Runs the tool whose name this is called by, as bpfrec-info; or the one that the first word names."""
+"""Runs the tool whose name this is called by, or the one that the first word names."""
 
 from __future__ import annotations
 
 import importlib
 import os
 import sys
-from typing import Callable, NamedTuple
+from typing import Callable, Optional
 
-from bpfrec_host import printing
+from bpfrec_host import VERSION, completing, printing, verbs
+from bpfrec_host.arguments import name_of, nearest
 from bpfrec_host.ending import guarded
 
-
-class Tool(NamedTuple):
-    """A tool: the module that has its parser and its run, and what it does."""
-
-    module: str
-    about: str
+TOOLS = {name: verb.module for name, verb in verbs.VERBS.items() if verb.module}
 
 
-TOOLS = {
-    "live": Tool("bpfrec_host.live.command", "records network interfaces, and audits the recording"),
-    "convert": Tool("bpfrec_host.convert.command", "makes feeds from captures and back, and shows their frames"),
-    "info": Tool("bpfrec_host.info.command", "tells what is in a recording, as a text, as JSON or as a page"),
-    "pcapng": Tool("bpfrec_host.pcapng.command", "makes one capture of recordings, of a slice of time or of channels"),
-    "chapter11": Tool(
-        "bpfrec_host.chapter11.command", "makes a whole Chapter 11 file of a recording, with setup, time and index"
-    ),
-    "follow": Tool("bpfrec_host.follow.command", "gives the frames of a recording that goes on, as pcapng"),
-    "publish": Tool("bpfrec_host.publish.command", "sends a recording that goes on to a ground station, by UDP"),
-    "receive": Tool("bpfrec_host.receive.command", "writes what publish sends into a file"),
-    "control": Tool("bpfrec_host.control.command", "sends lines to a recording that goes on, and waits for answers"),
-    "salvage": Tool("bpfrec_host.salvage", "copies what is left of a damaged recording"),
-    "preflight": Tool("bpfrec_host.preflight.command", "names all that is wrong with settings before a recording"),
-}
-
-
-def run_tool(tool: str) -> int:
-    """Runs a tool with the words of the command line: its status."""
+def run_tool(tool: str, words: Optional[list[str]] = None) -> int:
+    """Runs a tool with these words, by default those of the command line: its status."""
 
     def command() -> int:
+        if given == ["--version"]:
+            printing.out(f"bpfrec {VERSION}\n")
+            return 0
         # Imported here, so that Ctrl-C during an import ends as it does later.
-        run: Callable[[list[str]], int] = importlib.import_module(TOOLS[tool].module).run
-        return run(sys.argv[1:])
+        run: Callable[[list[str]], int] = importlib.import_module(TOOLS[tool]).run
+        return run(given)
 
-    return guarded(tool, command)
+    given = sys.argv[1:] if words is None else words
+    return guarded(name_of(tool), command)
 
 
-def tell_tools() -> int:
-    """Says which tools there are: the status, which is 0 where that was asked for."""
-    lines = [f"  {name:<10} {it.about}" for name, it in TOOLS.items()]
-    text = "\n".join(["usage: bpfrec_host TOOL ..", "", *lines, "", "TOOL --help has the arguments of each."])
-    if sys.argv[1:] in (["-h"], ["--help"]):
-        printing.out(f"{text}\n")
+def show_verbs(words: list[str]) -> int:
+    """Lists the verbs: the status, which is 0 where that was asked for."""
+    if words in ([], ["-h"], ["--help"], ["help"]):
+        printing.out(verbs.text())
         return 0
-    printing.err(f"bpfrec_host: no such tool: {sys.argv[1]}" if sys.argv[1:] else text)
+    verb, known = words[words[0] == "help"], [*verbs.VERBS, "help"]
+    printing.err(f"bpfrec: no verb {verb}{nearest(verb, known)}\nbpfrec --help lists all")
     return 2
 
 
 def main() -> int:
     """Runs the tool that was called: the status."""
-    called = os.path.basename(sys.argv[0])
-    tool = called[len("bpfrec-") :] if called.startswith("bpfrec-") else called
-    if tool in TOOLS:
-        return run_tool(tool)
-    if len(sys.argv) > 1 and sys.argv[1] in TOOLS:
-        return run_tool(sys.argv.pop(1))
-    return guarded("bpfrec_host", tell_tools)
+    called, words = os.path.basename(sys.argv[0]), sys.argv[1:]
+    if called in TOOLS:
+        return run_tool(called)
+    if words[:1] == ["help"] and words[1:]:
+        words = [words[1], "--help"] if words[1] in TOOLS else words[:2]
+    if words[:1] == ["complete"]:
+        return guarded("bpfrec complete", lambda: completing.run(words[1:]))
+    if words and words[0] in TOOLS:
+        return run_tool(words[0], words[1:])
+    return guarded("bpfrec", lambda: show_verbs(words))
 
 
 if __name__ == "__main__":

@@ -3,35 +3,34 @@
 from __future__ import annotations
 
 import argparse
-import os
-import sys
+import difflib
+from collections.abc import Iterable
 from typing import IO, NoReturn, Optional
 
 from bpfrec_host import printing
 
-
-def short_name(tool: str) -> str:
-    """The name of a tool in what it tells: `info`, or `bpfrec-info` where it is installed."""
-    called = os.path.basename(sys.argv[0])
-    return called if called == f"bpfrec-{tool}" else tool
+# What argparse says of options and words that nobody takes.
+UNKNOWN = "unrecognized arguments: "
 
 
-def full_name(tool: str) -> str:
-    """How a tool was called, for its help: `host/bin/info` in a checkout, or `bpfrec-info` where it is installed."""
-    called = os.path.basename(sys.argv[0])
-    if called == f"bpfrec-{tool}":
-        return called
-    if called.startswith("bpfrec-"):
-        return f"{called} {tool}"
-    return f"python3 -m bpfrec_host {tool}" if called == "__main__.py" else f"host/bin/{tool}"
+def name_of(tool: str) -> str:
+    """How a tool is called, and what begins each line that it prints of itself."""
+    return f"bpfrec {tool}"
+
+
+def nearest(word: str, known: Iterable[str]) -> str:
+    """What a line about an unknown word ends in: the known one that is most like it, if any is."""
+    found = difflib.get_close_matches(word.partition("=")[0], list(known), 1)
+    return f": did you mean {found[0]}?" if found else ""
 
 
 class Parser(argparse.ArgumentParser):
     """A parser that keeps the lines of a tool's help as they are written, and whose help fails as all else that is
-    printed does, where standard output can't take it."""
+    printed does, where standard output can't take it. Options stand anywhere, and each is written whole."""
 
     def __init__(self, **more: object) -> None:
         more.setdefault("formatter_class", argparse.RawDescriptionHelpFormatter)
+        more.setdefault("allow_abbrev", False)
         super().__init__(**more)  # type: ignore[arg-type]
 
     def print_help(self, file: Optional[IO[str]] = None) -> None:
@@ -40,6 +39,10 @@ class Parser(argparse.ArgumentParser):
 
     def error(self, message: str) -> NoReturn:
         """Says what is wrong with the arguments, and ends."""
+        if message.startswith(UNKNOWN):
+            words = message[len(UNKNOWN) :].split()
+            options = [it for action in self._actions for it in action.option_strings]
+            message = f"no such option: {words[0]}{nearest(words[0], options)}" if words[0][0] == "-" else message
         printing.err(f"{self.format_usage()}{self.prog}: error: {message}")
         self.exit(2)
 

@@ -44,14 +44,12 @@ def find() -> str:
 
 
 def places() -> list[str]:
-    """Where the program may be: in bin/ of the checkout that has this package; or where this is an archive, in bin/ of
-    the PREFIX that has it in libexec/bpfrec/, beside it, and on PATH."""
+    """Where the program may be: in bin/ of the checkout that has this package; or beside the archive that it is, and on
+    PATH."""
     holder = Path(__file__).resolve().parents[1]
     if not holder.is_file():
         return [str(holder.parent / "bin" / "bpfrec")]
-    folder = holder.parent
-    is_installed = folder.parts[-2:] == ("libexec", "bpfrec")
-    return [*[str(folder.parent.parent / "bin" / "bpfrec")] * is_installed, str(folder / "bpfrec"), "bpfrec"]
+    return [str(holder.parent / "bpfrec"), "bpfrec"]
 
 
 def capture_path() -> str:
@@ -61,7 +59,7 @@ def capture_path() -> str:
     if named:
         return named
     holder = Path(__file__).resolve().parents[1]
-    return str(holder.parent / ("bpfrec-capture" if holder.is_file() else "bin/capture"))
+    return str(holder.parent / ("capture" if holder.is_file() else "bin/capture"))
 
 
 def run(*arguments: str, stdin: Union[int, IO[bytes]] = subprocess.DEVNULL) -> subprocess.CompletedProcess[str]:

@@ -1,4 +1,4 @@
-"""bpfrec-salvage: what is left of a recording that was cut or damaged."""
+"""bpfrec salvage: what is left of a recording that was cut or damaged."""
 
 from __future__ import annotations
 
@@ -7,7 +7,7 @@ from itertools import chain
 from typing import BinaryIO, Iterable, Iterator, NoReturn, Optional, Union
 
 from bpfrec_host import printing
-from bpfrec_host.arguments import Parser, full_name, short_name
+from bpfrec_host.arguments import Parser, name_of
 from bpfrec_host.formats import ch11
 from bpfrec_host.program import audit_of
 from bpfrec_host.progress import Progress, size_of
@@ -55,8 +55,8 @@ class SalvageParser(Parser):
 
     def error(self, message: str) -> NoReturn:
         """Ends where the arguments are wrong."""
-        name = full_name("salvage")
-        printing.err(f"{short_name('salvage')}: it takes DAMAGED and OUT: {name} --help has its arguments")
+        name = name_of("salvage")
+        printing.err(f"{name_of('salvage')}: it takes DAMAGED and OUT: {name} --help has its arguments")
         self.exit(2)
 
 
@@ -126,8 +126,8 @@ def watched(damaged: BinaryIO, is_quiet: bool) -> Iterator[Piece]:
 
 
 def parser() -> Parser:
-    """The arguments of bpfrec-salvage."""
-    made = SalvageParser(prog=full_name("salvage"), description=ABOUT, epilog=MORE)
+    """The arguments of bpfrec salvage."""
+    made = SalvageParser(prog=name_of("salvage"), description=ABOUT, epilog=MORE)
     made.add_argument("--force", action="store_true", help="overwrites an OUT that exists")
     made.add_argument("--quiet", action="store_true", help="shows no progress on a terminal")
     made.add_argument("damaged", metavar="DAMAGED")
@@ -161,7 +161,7 @@ def run(arguments: list[str]) -> int:
             pieces = watched(damaged, given.quiet)
             return 0 if salvage_into(given.out, chain(up_to_packet(pieces, given.damaged), pieces)) else 1
     except Refused as refused:
-        printing.err(f"{short_name('salvage')}: {refused}")
+        printing.err(f"{name_of('salvage')}: {refused}")
         return refused.status
 
 

@@ -1,4 +1,4 @@
-"""Tries host/bin/chapter11: SETUP by facts and by the command line, what is refused, and the program that it runs, which
+"""Tries bpfrec export: SETUP by facts and by the command line, what is refused, and the program that it runs, which
 is played."""
 
 from __future__ import annotations
@@ -19,12 +19,12 @@ from bpfrec_host.info.contents import read
 from expected_facts import TAI_37, THREE_ORIGINS, UNKNOWN_SCALE, facts_of_run
 from frames import FRAMES, body_of, packet_of
 from reading import SAMPLES
-from support import ROOT, judge, judge_quietly, nanoseconds, outcome
+from support import EXPORT, judge, judge_quietly, nanoseconds, outcome
 from whole_file import Origin, Setup, whole_file
 from whole_file_parts import SECOND, faults_of, sample_recording
 
 WANTED: dict[str, str] = {}
-CHAPTER11 = ROOT / "host/bin/chapter11"
+CHAPTER11 = (EXPORT, "--as=chapter11")
 # Plays the program: what it is given, and how it ends.
 PLAYED = """#!/bin/sh
 printf '%s\\n' "$@" > "$(dirname "$0")/given"
@@ -57,12 +57,12 @@ def by(recording: Path, *words: object, plays: str = "", **more: Any) -> subproc
     played.write_text(PLAYED)
     played.chmod(0o755)
     env = {**os.environ, "BPFREC": str(played), "PLAYED": plays}
-    return outcome(CHAPTER11, *words, env=env, cwd=recording.parent, **more)
+    return outcome(*CHAPTER11, *words, env=env, cwd=recording.parent, **more)
 
 
 def setup_by(recording: Path, *words: object) -> dict[str, Any]:
     """SETUP, as it is printed and read by TOML's rules."""
-    done = outcome(CHAPTER11, "--print-setup", *words, recording, env={**os.environ, "BPFREC": "/none"})
+    done = outcome(*CHAPTER11, "--print-setup", *words, recording, env={**os.environ, "BPFREC": "/none"})
     judge_quietly("it is printed", (done.returncode, done.stderr) == (0, ""), done)
     return tomllib.loads(done.stdout)
 
@@ -126,7 +126,7 @@ def test_without_facts_the_origin_is_given(recording: Path) -> None:
     for text in ("0", "1764590400", "-1.5", "1764590400.250000123", "999999999999.999999999"):
         judge_quietly(text, setup_by(recording, "--origin", text) == {"origin": text})
     for text in ("", "1.", ".5", "1.0000000000", "1000000000000", "+1", "1e3", "now", "2025-12-01T12:00:00Z", "1\n"):
-        done = outcome(CHAPTER11, f"--origin={text}", recording, "out")
+        done = outcome(*CHAPTER11, f"--origin={text}", recording, "out")
         judge_quietly(repr(text), done.returncode == 2 and "is no time in seconds since 1970" in done.stderr, done)
     judge("others are no origin", True)
 
@@ -237,11 +237,11 @@ def refused(recording: Path, status: int, line: str, *words: object) -> None:
 
 def test_arguments_that_make_no_setup_are_refused(recording: Path) -> None:
     where = "no facts beside it: --facts or --origin says when it was recorded"
-    refused(recording, 2, f"chapter11: flight.ch11: {where}\n", "flight.ch11", "out")
-    twice = "chapter11: -: it is standard input, and chapter11 reads a file twice\n"
+    refused(recording, 2, f"bpfrec export: flight.ch11: {where}\n", "flight.ch11", "out")
+    twice = "bpfrec export: -: it is standard input, and a whole file is made by reading twice\n"
     refused(recording, 2, twice, *ORIGIN, "-", "out")
     with_facts(recording, ONE)
-    both = "chapter11: flight.ch11.json has the origins, and --origin is for a recording without facts\n"
+    both = "bpfrec export: flight.ch11.json has the origins, and --origin is for a recording without facts\n"
     refused(recording, 2, both, *ORIGIN, "flight.ch11", "out")
     arguments: list[list[object]] = [
         [recording],
@@ -253,21 +253,23 @@ def test_arguments_that_make_no_setup_are_refused(recording: Path) -> None:
     ]
     for words in arguments:
         done = by(recording, *words)
-        judge_quietly(f"{words}", done.returncode == 2 and done.stderr.startswith("usage: host/bin/chapter11 "), done)
+        judge_quietly(f"{words}", done.returncode == 2 and done.stderr.startswith("usage: bpfrec export "), done)
     judge("each is refused", True)
 
 
 def test_facts_that_say_no_times_are_refused(recording: Path) -> None:
     beside = with_facts(recording, UNKNOWN_SCALE)
     scale = "its scale is unknown: --utc says that it is UTC, and --tai 37 that it is 37 s ahead"
-    line = f"chapter11: flight.ch11.json: the origin from counter 0 on: {scale}\n"
+    line = f"bpfrec export: flight.ch11.json: the origin from counter 0 on: {scale}\n"
     refused(recording, 1, line, "flight.ch11", "out")
     beside.write_text("{}")
-    refused(recording, 1, "chapter11: flight.ch11.json: no facts of a recording: facts isn't 1\n", "flight.ch11", "out")
+    refused(
+        recording, 1, "bpfrec export: flight.ch11.json: no facts of a recording: facts isn't 1\n", "flight.ch11", "out"
+    )
     beside.unlink()
     beside.mkdir()
-    refused(recording, 3, "chapter11: flight.ch11.json: Is a directory\n", "flight.ch11", "out")
-    refused(recording, 3, "chapter11: none: No such file or directory\n", "--facts", "none", "flight.ch11", "out")
+    refused(recording, 3, "bpfrec export: flight.ch11.json: Is a directory\n", "flight.ch11", "out")
+    refused(recording, 3, "bpfrec export: none: No such file or directory\n", "--facts", "none", "flight.ch11", "out")
     judge("each is refused", True)
 
 
@@ -291,12 +293,12 @@ def test_an_output_that_is_an_input_is_refused(recording: Path) -> None:
         ("flight.ch11.json", "flight.ch11.json"),
         ("other", "flight.ch11.json"),
     ):
-        refused(recording, 3, f"chapter11: {out}: it is {taken} itself\n", "flight.ch11", out)
+        refused(recording, 3, f"bpfrec export: {out}: it is {taken} itself\n", "flight.ch11", out)
     for path in (recording, beside):
         before = path.read_bytes()
         with open(path, "ab") as stream:
             done = by(recording, "--print-setup", "flight.ch11", stdout=stream, stderr=subprocess.PIPE)
-        line = f"chapter11: -: it is {path.name} itself\n"
+        line = f"bpfrec export: -: it is {path.name} itself\n"
         judge_quietly("standard output", (done.returncode, done.stderr) == (3, line), done)
         judge_quietly("the input stays", path.read_bytes() == before)
     judge("each is refused", True)
@@ -307,7 +309,7 @@ def test_an_out_that_has_bytes_is_refused_without_force(recording: Path) -> None
     with_facts(recording, ONE)
     out = recording.with_name("out")
     out.write_text("another's")
-    refused(recording, 3, "chapter11: out is there: give it another name, or --force\n", "flight.ch11", "out")
+    refused(recording, 3, "bpfrec export: out is there: give it another name, or --force\n", "flight.ch11", "out")
     judge("it stays", out.read_text() == "another's")
     judge("options stand anywhere", by(recording, "flight.ch11", "--force", "out").stdout == ANSWER)
     judge("with --force it is the program's", by(recording, "--force", "flight.ch11", "out").stdout == ANSWER)
@@ -346,8 +348,8 @@ def test_the_status_is_the_programs(recording: Path, status: int) -> None:
 
 
 def test_a_program_that_is_missing_is_said(recording: Path) -> None:
-    done = outcome(CHAPTER11, *ORIGIN, recording, "out", env={**os.environ, "BPFREC": "/none/bpfrec"})
-    judge("missing", (done.returncode, done.stderr) == (3, "chapter11: /none/bpfrec is missing\n"), done)
+    done = outcome(*CHAPTER11, *ORIGIN, recording, "out", env={**os.environ, "BPFREC": "/none/bpfrec"})
+    judge("missing", (done.returncode, done.stderr) == (3, "bpfrec export: /none/bpfrec is missing\n"), done)
 
 
 @pytest.mark.parametrize("number", [signal.SIGINT, signal.SIGTERM, signal.SIGKILL], ids=lambda it: it.name)
@@ -356,7 +358,7 @@ def test_what_ends_it_ends_the_program(recording: Path, number: signal.Signals) 
     played = recording.with_name("slow")
     played.write_text("#!/bin/sh\necho begun\nexec sleep 60\n")
     played.chmod(0o755)
-    words = [str(it) for it in (CHAPTER11, *ORIGIN, recording, "out")]
+    words = [str(it) for it in (*CHAPTER11, *ORIGIN, recording, "out")]
     env = {**os.environ, "BPFREC": str(played)}
     with subprocess.Popen(words, env=env, stdout=subprocess.PIPE, text=True) as running:
         assert running.stdout
@@ -370,7 +372,7 @@ def test_what_ends_it_ends_the_program(recording: Path, number: signal.Signals) 
 def test_an_output_whose_reader_has_left_is_said(recording: Path) -> None:
     """By the program, which no SIGPIPE ends."""
     plays = "trap 'echo killed >&2' PIPE; sleep 0.2; echo more || echo broken >&2; exit 3"
-    script = f"{CHAPTER11} --origin 0 flight.ch11 out | :"
+    script = f"{EXPORT} --as=chapter11 --origin 0 flight.ch11 out | :"
     played = recording.with_name("played")
     played.write_text(PLAYED.replace("echo 'times", "true 'times"))
     played.chmod(0o755)
@@ -384,8 +386,8 @@ def test_an_out_that_is_a_recording_or_a_folder_is_refused(recording: Path) -> N
     with_facts(recording, ONE)
     other = Path(shutil.copy(recording, recording.with_name("wing.ch11")))
     with_facts(other, ONE)
-    line = "chapter11: wing.ch11 is a recording, with its facts beside it: give OUT another name\n"
+    line = "bpfrec export: wing.ch11 is a recording, with its facts beside it: give OUT another name\n"
     refused(recording, 3, line, "--force", "flight.ch11", "wing.ch11")
     judge("it stays", other.read_bytes() == recording.read_bytes())
     (recording.parent / "folder").mkdir()
-    refused(recording, 3, "chapter11: folder: it is a folder\n", "--force", "flight.ch11", "folder")
+    refused(recording, 3, "bpfrec export: folder: it is a folder\n", "--force", "flight.ch11", "folder")

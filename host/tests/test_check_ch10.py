@@ -1,4 +1,4 @@
-"""Tries host/bin/check_ch10: what it prints of a file, and the times of frames by the clocks of their recordings."""
+"""Tries the check of whole files: what it prints of a file, and the times of frames by the clocks of their recordings."""
 
 from __future__ import annotations
 
@@ -11,12 +11,11 @@ from fractions import Fraction
 import pytest
 from drawn_recording import DrawnRecording
 from reading import SAMPLES
-from support import ROOT, judge, judge_quietly
+from support import CHECK_CH10, judge, judge_quietly
 from whole_file import TIME, Origin, Refused, Rule, Setup, rules_of, whole_file
 from whole_file_parts import ORIGIN, SECOND, bytes_of, parts_of, recorded, sample, without
 
 WANTED: dict[str, str] = {}
-CHECK = ROOT / "host/bin/check_ch10"
 DAY = 86_400
 # The sum of the file of the recording of 248 bytes with this origin.
 ONE_SUM = "bc7788fb6bd5a9b95dc6af282ea8a3d1a4b274476766c991a927b7373ea32e74"
@@ -24,7 +23,7 @@ ONE_SUM = "bc7788fb6bd5a9b95dc6af282ea8a3d1a4b274476766c991a927b7373ea32e74"
 
 def checked(data: bytes, *options: str) -> tuple[int, list[str]]:
     """How the tool ends, and the lines that it prints."""
-    done = subprocess.run([CHECK, *options, "-"], input=data, capture_output=True, timeout=60)
+    done = subprocess.run([CHECK_CH10, *options, "-"], input=data, capture_output=True, timeout=60)
     return done.returncode, done.stdout.decode().splitlines()
 
 

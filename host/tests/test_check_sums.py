@@ -1,4 +1,4 @@
-"""Tries host/bin/check_sums: bodies of all lengths around its pieces, changed bytes, packets far behind, and its
+"""Tries the sums of bpfrec check: bodies of all lengths around its pieces, changed bytes, packets far behind, and its
 memory."""
 
 from __future__ import annotations
@@ -11,13 +11,12 @@ from pathlib import Path
 
 import pytest
 from frames import FRAMES, HEADER_LENGTH, header_of, packet_of, sum_of
-from support import ROOT, judge, judge_quietly
+from support import judge, judge_quietly, sums
 from whole_file import TIME
 from whole_file_parts import bytes_of, parts_of, place_of, sample, without
 
 WANTED: dict[str, str] = {}
-CHECK_SUMS = ROOT / "host/bin/check_sums"
-# How many bytes check_sums reads at once, and the room in which it is tried.
+# How many bytes check reads at once, and the room in which it is tried.
 PIECE, ROOM = 1 << 16, 96 << 20
 
 
@@ -31,11 +30,11 @@ def claiming(length: int) -> bytes:
 
 
 def checked(work: Path, recording: bytes) -> subprocess.CompletedProcess:
-    """What check_sums says of a recording, in bounded room."""
+    """What check says of a recording, in bounded room."""
     path = work / "recording"
     path.write_bytes(recording)
     bounded = lambda: resource.setrlimit(resource.RLIMIT_AS, (ROOM, ROOM))  # noqa: E731
-    return subprocess.run([CHECK_SUMS, path], capture_output=True, text=True, preexec_fn=bounded, timeout=60)
+    return sums(path, preexec_fn=bounded, seconds=60)
 
 
 @pytest.mark.parametrize("length", [4, PIECE - 8, PIECE - 4, PIECE, PIECE + 4, 2 * PIECE - 4, 1_000_000])
@@ -92,8 +91,9 @@ def test_a_whole_file_is_known_by_its_setup_record(work: Path) -> None:
     done = checked(work, sample())
     line = "packets 23 data checksums 23 without 0 wrong 0\n"
     judge("it is right", (done.returncode, done.stdout) == (0, line), done)
-    done = subprocess.run([CHECK_SUMS, "-"], input=sample(), capture_output=True, timeout=60)
-    judge("as standard input", (done.returncode, done.stdout.decode()) == (0, line), done)
+    with open(work / "recording", "rb") as whole:
+        done = sums("-", stdin=whole)
+    judge("as standard input", (done.returncode, done.stdout) == (0, line), done)
     done = checked(work, bytes_of(without(TIME, 4)(parts_of(sample()))))
     missing = "2384 a time packet is missing ahead of it\n"
     judge("a time packet is missing", done.returncode == 1 and missing in done.stdout, done)

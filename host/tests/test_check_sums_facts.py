@@ -1,4 +1,4 @@
-"""Tries what host/bin/check_sums judges beside sums: what facts claim, recordings that follow one another, and who
+"""Tries what bpfrec check judges beside sums: what facts claim, recordings that follow one another, and who
 signed."""
 
 from __future__ import annotations
@@ -10,13 +10,13 @@ from pathlib import Path
 from typing import Any, Optional, cast
 
 import pytest
-from bpfrec_host.check_sums import claims
-from bpfrec_host.check_sums.claims import Before, Claims, NoClaims, claims_in
-from bpfrec_host.check_sums.judge import PIECE, Judge, content_of
-from bpfrec_host.check_sums.order import Place, in_order, place_of
-from bpfrec_host.check_sums.verifier import Verifier, verifier_of
+from bpfrec_host.check import claims
+from bpfrec_host.check.claims import Before, Claims, NoClaims, claims_in
+from bpfrec_host.check.judge import PIECE, Judge, content_of
+from bpfrec_host.check.order import Place, in_order, place_of
+from bpfrec_host.check.verifier import Verifier, verifier_of
 from bpfrec_host.formats.signatures import Unsigned
-from support import CHECK_SUMS, judge, judge_quietly, outcome
+from support import judge, judge_quietly, sums
 
 DIGEST = "0123456789abcdef" * 4
 FACTS: dict[str, Any] = {"recording": "b.ch11", "sha256": DIGEST, "bytes": 5, "before": None}
@@ -174,9 +174,9 @@ def recorded(work: Path, *folders: str) -> list[Path]:
 def test_one_that_is_missing_is_seen_where_a_run_has_several_folders(work: Path) -> None:
     """The later ones are in the folder that is sorted first."""
     paths = recorded(work, "card2", "card2", "card1", "card1")
-    done = outcome(CHECK_SUMS, *paths)
+    done = sums(*paths)
     judge("all of them", done.returncode == 0 and done.stdout.count("before right") == 3, done)
-    done = outcome(CHECK_SUMS, paths[0], *paths[2:])
+    done = sums(paths[0], *paths[2:])
     line = "before wrong: r_00001, the facts say r_00002\n"
     judge("without the second", done.returncode == 1 and line in done.stdout, done)
 
@@ -186,9 +186,9 @@ def test_a_recording_that_is_given_twice_is_refused(work: Path) -> None:
     (path,) = recorded(work, "card")
     (work / "link").symlink_to(path)
     for again in (path, work / "card/../card" / path.name, work / "link"):
-        done = outcome(CHECK_SUMS, path, again)
-        judge(f"{again}", done.returncode == 2 and f"error: {again} is given twice\n" in done.stderr, done)
-    done = outcome(CHECK_SUMS, work / "none", work / "none")
+        done = sums(path, again)
+        judge(f"{again}", done.returncode == 1 and f"check: {again}: it is given twice" in done.stderr, done)
+    done = sums(work / "none")
     judge("missing", (done.returncode, done.stderr) == (3, f"file {work}/none: No such file or directory\n"), done)
 
 
@@ -203,7 +203,7 @@ def test_a_name_that_is_no_utf8_is_that_of_its_facts(work: Path) -> None:
         facts = {"recording": name, "sha256": digest, "bytes": 0, "before": before}
         Path(os.fsdecode(path + b".json")).write_text(json.dumps(facts))
     paths = [os.fsencode(work) + b"/\xff" + name.encode() for name in names]
-    done = outcome(CHECK_SUMS, *paths, env={**os.environ, "LC_ALL": "C.UTF-8"})
+    done = sums(*paths, env={**os.environ, "LC_ALL": "C.UTF-8"})
     last = "packets 0 data checksums 0 without 0 wrong 0"
     empty = ["empty: there is no packet", last]
     lines = [f"recording {work}/?_00001", "hash right", "before none", *empty]
@@ -266,7 +266,7 @@ def test_a_pipe_has_no_hash(work: Path) -> None:
     judge("it is said", Judge(None, lines.append).judge(str(work / "pipe")) and lines, lines)
     judge("so", lines == ["hash none: it is no regular file"], lines)
     (work / "r").write_bytes(b"")
-    done = outcome(CHECK_SUMS, work / "pipe", work / "r", seconds=20)
+    done = sums(work / "pipe", work / "r", seconds=20)
     lines = [f"recording {work}/pipe", "hash none: it is no regular file", "sums none: it is no regular file"]
     judge("and nothing is waited for", (done.returncode, done.stdout.splitlines()[:3]) == (1, lines), done)
 

@@ -162,7 +162,7 @@ def test_a_watch_says_the_clock_once_and_at_each_change(played: dict, signals: S
     now = watch.deadline() or 0
     for second in range(5):
         looked(loop, watch, now + second)
-    first = "live: clock: synchronised by chrony (a), off by at most 0.001000 s"
+    first = "bpfrec live: clock: synchronised by chrony (a), off by at most 0.001000 s"
     judge("it says it once", lines == [first] and played["asked"] == 1, lines)
     played["kernel"] = ClockState(True, 0.0099)
     looked(loop, watch, now + 5)

@@ -1,8 +1,7 @@
-"""Tries host/bin/convert to-pcap --facts: the times of frames by the origins of facts, and facts that are none."""
+"""Tries convert to-pcap --facts: the times of frames by the origins of facts, and facts that are none."""
 
 import json
 import random
-import sys
 from pathlib import Path
 
 import pytest
@@ -11,7 +10,7 @@ from damage import damaged
 from expected_facts import TAI_37, THREE_ORIGINS, UNKNOWN_SCALE, facts_of_run, moments_by, origins_in
 from frames import counters, feed_of
 from pcapng import frame_of, times_of, whole
-from support import CONVERT, ROOT, judge, judge_quietly, outcome, run
+from support import CONVERT, judge, judge_quietly, outcome, run
 
 WANTED = {"tshark": "tshark"}
 DAMAGED = 150
@@ -196,7 +195,10 @@ def test_text_that_is_no_facts_is_refused_and_the_capture_stays(work: Path, feed
     facts = work / "bad.json"
     facts.write_bytes(data)
     told = by_facts(facts, feed, kept)
-    judge(f"no facts: {why}", told == (1, f"convert: {facts}: {NO_FACTS}: {why}\n") and kept.read_bytes() == b"kept")
+    judge(
+        f"no facts: {why}",
+        told == (1, f"convert: {facts}: {NO_FACTS}: {why}\n") and kept.read_bytes() == b"kept",
+    )
 
 
 def test_facts_that_cannot_be_read_are_refused(work: Path, feed: Path, kept: Path) -> None:
@@ -264,20 +266,3 @@ def few_facts() -> dict:
     """Facts with little beside their origins, so that damage meets these."""
     names = ("facts", "recording", "host", "state", "clock", "origins", "losses", "status")
     return {name: it for name, it in facts_of_run(THREE_ORIGINS, [(3, 0, 0)]).items() if name in names}
-
-
-# ---- a copy of the program
-
-
-def test_the_tools_as_one_file_run_when_copied_alone(work: Path, feed: Path) -> None:
-    """The tools as one file, which is copied by itself."""
-    alone, capture, facts = work / "alone/bpfrec-convert", work / "alone.pcap", work / "alone.json"
-    alone.parent.mkdir()
-    run(ROOT / "dev/package/make_host.py", alone)
-    facts.write_text(json.dumps(facts_of_run([("1764590400.250000000", 0, None)])))
-    wanted = moments_by([("1764590400.25", 0)], counters(feed.read_bytes()))
-    for words in (["--origin", "1764590400.25"], ["--facts", str(facts)]):
-        run(sys.executable, alone, "to-pcap", "--force", *words, feed, capture)
-        judge(f"one file works alone, with {words[0]}", times_of(capture.read_bytes()) == wanted)
-    judge("and leaves nothing beside it", [it.name for it in alone.parent.iterdir()] == ["bpfrec-convert"])
-    judge("nor in the repository", not (CONVERT.parent / "__pycache__").exists())

@@ -1,4 +1,4 @@
-"""Tries which recordings host/bin/follow takes for those of a run, by their names and the facts beside them."""
+"""Tries which recordings bpfrec follow takes for those of a run, by their names and the facts beside them."""
 
 from __future__ import annotations
 

@@ -1,4 +1,4 @@
-"""Tries what host/bin/info says of whole Chapter 11 files: host, program, names and times by the file itself."""
+"""Tries what bpfrec info says of whole Chapter 11 files: host, program, names and times by the file itself."""
 
 from __future__ import annotations
 

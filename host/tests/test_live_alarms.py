@@ -36,10 +36,11 @@ def test_an_alarm_begins_once_and_ends_once_whatever_it_says_meanwhile() -> None
     changes, later = AlarmChanges(), SILENT._replace(text="channel 3 (eth2): no frame came for 12 s")
     judge("nothing yet", told(changes) == [])
     judge(
-        "each begins", told(changes, SILENT, WAITS) == [f"live: alarm: {SILENT.text}", f"live: warning: {WAITS.text}"]
+        "each begins",
+        told(changes, SILENT, WAITS) == [f"bpfrec live: alarm: {SILENT.text}", f"bpfrec live: warning: {WAITS.text}"],
     )
     judge("another text is no news", told(changes, later, WAITS) == [])
-    lines = [f"live: alarm ended: {later.text}", f"live: alarm: {DISK.text}"]
+    lines = [f"bpfrec live: alarm ended: {later.text}", f"bpfrec live: alarm: {DISK.text}"]
     judge("one ends with its last text, another begins", told(changes, WAITS, DISK) == lines)
     other = SILENT._replace(channel=4)
     judge("of two channels there are two", len(told(changes, WAITS, DISK, SILENT, other)) == 2)
@@ -47,7 +48,7 @@ def test_an_alarm_begins_once_and_ends_once_whatever_it_says_meanwhile() -> None
     lines = told(changes, worse, DISK, SILENT, other)
     judge(
         "a warning that becomes an alarm is one",
-        lines == [f"live: warning ended: {WAITS.text}", f"live: alarm: {WAITS.text}"],
+        lines == [f"bpfrec live: warning ended: {WAITS.text}", f"bpfrec live: alarm: {WAITS.text}"],
     )
 
 
@@ -167,14 +168,17 @@ def test_a_program_that_fails_or_hangs_is_said_and_the_next_is_run(
     run.command.take(AlarmChange(False, DISK))
     run.turn_until("both were run", run.is_idle)
     judge_quietly("both were", noted.read_text() == "x\nx\n")
-    judge(text, run.lines == [f"live: --on-alarm: {program} {line}"] * 2, run.lines)
+    judge(text, run.lines == [f"bpfrec live: --on-alarm: {program} {line}"] * 2, run.lines)
     judge_quietly("in time", time.monotonic() - began < 3)
 
 
 def test_a_program_that_is_gone_is_said(work: Path, made: Callable[..., Run]) -> None:
     run = made(work / "missing")
     run.command.take(AlarmChange(True, DISK))
-    judge("by its name", run.lines == [f"live: --on-alarm: {work}/missing can't be started: No such file or directory"])
+    judge(
+        "by its name",
+        run.lines == [f"bpfrec live: --on-alarm: {work}/missing can't be started: No such file or directory"],
+    )
     judge("and nothing waits for it", run.is_idle())
 
 
@@ -184,7 +188,7 @@ def test_what_waits_is_bounded_and_what_is_left_out_is_counted(work: Path, made:
         run.command.take(AlarmChange(True, DISK))
     judge("no more than a number waits", len(run.command.waiting) == alarm_command.MOST_WAITING)
     run.turn_until("all were run", run.is_idle, 30)
-    line = f"live: --on-alarm: {work}/alarm wasn't run for 3 alarms: {alarm_command.MOST_WAITING} waited"
+    line = f"bpfrec live: --on-alarm: {work}/alarm wasn't run for 3 alarms: {alarm_command.MOST_WAITING} waited"
     judge("the others are counted once", run.lines == [line], run.lines)
 
 
@@ -242,16 +246,16 @@ def test_a_command_is_taken_apart_as_a_shell_does_it() -> None:
 
 PRIORITIES = {
     Priority.ERROR: [
-        "live: alarm: channel 3 (eth2): no frame came for 11 s",
-        "live: clock: not synchronised: --require-clock: the clock is not synchronised",
-        "live: clock: synchronised, off by at most 0.020000 s: --require-clock: the clock may be off by 0.020000 s, and ..",
-        "live: clock: synchronised by chrony (::1), off by at most 0.02 s: --require-clock: the clock may be off by ..",
-        "live: --on-alarm: logger ended with status 1",
-        "live: flight.ch11 can't be forced to its disk: Input/output error",
-        "live: flight.ch11 can't be written any more: the recording ends",
-        "live: --every and --size need an interface",
-        "live: eth0: no recorder reads its frames, which wait for the next recording",
-        "live: capture has ended, and its interfaces with it",
+        "bpfrec live: alarm: channel 3 (eth2): no frame came for 11 s",
+        "bpfrec live: clock: not synchronised: --require-clock: the clock is not synchronised",
+        "bpfrec live: clock: synchronised, off by at most 0.020000 s: --require-clock: the clock may be off by 0.020000 s, and ..",
+        "bpfrec live: clock: synchronised by chrony (::1), off by at most 0.02 s: --require-clock: the clock may be off by ..",
+        "bpfrec live: --on-alarm: logger ended with status 1",
+        "bpfrec live: flight.ch11 can't be forced to its disk: Input/output error",
+        "bpfrec live: flight.ch11 can't be written any more: the recording ends",
+        "bpfrec live: --every and --size need an interface",
+        "bpfrec live: eth0: no recorder reads its frames, which wait for the next recording",
+        "bpfrec live: capture has ended, and its interfaces with it",
         "capture: eth0: no permission to capture: be root, or have a group capture",
         "capture: eth0: the interface is gone",
         "capture: events can't be written: the facts beside the recording lack losses",
@@ -261,16 +265,16 @@ PRIORITIES = {
         "memory",
     ],
     Priority.WARNING: [
-        "live: warning: channel 3 (eth2): its pipe was full for 100 ms of the last 10 s",
-        "live: clock: not synchronised",
-        "live: clock: nobody says whether it is synchronised",
-        "live: next: recordings follow one another with --every or --size alone",
-        "live: 7 lines were left out: standard error had no room",
-        "live: eth0 LOST 1 dropped 0 skipped",
-        "live: left of runs that were killed, and to be removed: /tmp/bpfrec.0123456789abcdef",
-        "live: flight.ch11 was moved to other.ch11: it is recorded on there",
-        "live: publish [ff02::1%eth0]:50000: no route: datagrams lost: 5",
-        "live: publish 239.1.2.3:50000: ended by signal 9, and begins again in 1 s",
+        "bpfrec live: warning: channel 3 (eth2): its pipe was full for 100 ms of the last 10 s",
+        "bpfrec live: clock: not synchronised",
+        "bpfrec live: clock: nobody says whether it is synchronised",
+        "bpfrec live: next: recordings follow one another with --every or --size alone",
+        "bpfrec live: 7 lines were left out: standard error had no room",
+        "bpfrec live: eth0 LOST 1 dropped 0 skipped",
+        "bpfrec live: left of runs that were killed, and to be removed: /tmp/bpfrec.0123456789abcdef",
+        "bpfrec live: flight.ch11 was moved to other.ch11: it is recorded on there",
+        "bpfrec live: publish [ff02::1%eth0]:50000: no route: datagrams lost: 5",
+        "bpfrec live: publish 239.1.2.3:50000: ended by signal 9, and begins again in 1 s",
         "capture: eth0 LOST 1 dropped 0 skipped",
         "capture: eth0: it is down, and is recorded on once it is up",
         "capture: eth0: it has no carrier, and is recorded on once it has one",
@@ -280,14 +284,14 @@ PRIORITIES = {
         "refused 1 Empty",
     ],
     Priority.NOTE: [
-        "live: publish 239.1.2.3:50000: published packets 5 datagrams 5 lost 0 late 0",
-        "live: alarm ended: channel 3 (eth2): no frame came for 12 s",
-        "live: warning ended: channel 3 (eth2): its pipe was full for 100 ms of the last 10 s",
-        "live: clock: synchronised, off by at most 0.000500 s",
-        "live: clock: synchronised by chrony (192.0.2.1) and PTP (001122.fffe.334455), off by at most 0.000500 s",
-        "live: clock: synchronised by chrony (2001:db8::1), off by at most 0.000500 s",
-        "live: the next recording begins",
-        "live: flight_00001.ch11 was removed: --keep 3",
+        "bpfrec live: publish 239.1.2.3:50000: published packets 5 datagrams 5 lost 0 late 0",
+        "bpfrec live: alarm ended: channel 3 (eth2): no frame came for 12 s",
+        "bpfrec live: warning ended: channel 3 (eth2): its pipe was full for 100 ms of the last 10 s",
+        "bpfrec live: clock: synchronised, off by at most 0.000500 s",
+        "bpfrec live: clock: synchronised by chrony (192.0.2.1) and PTP (001122.fffe.334455), off by at most 0.000500 s",
+        "bpfrec live: clock: synchronised by chrony (2001:db8::1), off by at most 0.000500 s",
+        "bpfrec live: the next recording begins",
+        "bpfrec live: flight_00001.ch11 was removed: --keep 3",
         "capture: eth0 frames 1 bytes 64 dropped 0 missed 0 skipped 0 waited 0",
         "capture: origin 1764590400.250000000",
         "capture: origin 1764590400.250000000 from counter 0 on: counters have begun at 0 again",
@@ -325,11 +329,11 @@ def test_lines_have_priorities_where_the_journal_reads_them_and_nowhere_else(
             monkeypatch.setenv(journal.STREAM, name)
             os.truncate(path, 0)
             file.seek(0)
-            standard_streams.Lines(file.fileno()).put("live: clock: not synchronised", "one\ntwo")
+            standard_streams.Lines(file.fileno()).put("bpfrec live: clock: not synchronised", "one\ntwo")
             wanted = (
-                "<4>live: clock: not synchronised\n<6>one\n<6>two\n"
+                "<4>bpfrec live: clock: not synchronised\n<6>one\n<6>two\n"
                 if marks
-                else "live: clock: not synchronised\none\ntwo\n"
+                else "bpfrec live: clock: not synchronised\none\ntwo\n"
             )
             judge_quietly(f"JOURNAL_STREAM={name}: {path.read_text()}", path.read_text() == wanted)
     judge("by the device and the inode", True)

@@ -1,4 +1,4 @@
-"""Tries what host/bin/live reads of the capture: events in a file, and lines that come by pipes."""
+"""Tries what bpfrec live reads of the capture: events in a file, and lines that come by pipes."""
 
 import json
 import os
@@ -109,6 +109,11 @@ def test_past_so_many_interruptions_the_last_one_of_an_interface_gets_longer() -
     assert len(facts) == MOST_KEPT and facts[-1] == between(2 * MOST_KEPT - 2, 4 * MOST_KEPT - 1)
 
 
+def numbered(setting: int, counter: int) -> str:
+    """What is noted of a setting of the clock, which holds from a counter on."""
+    return SET.replace('"counter": 7,', f'"counter": {counter}, "setting": {setting},')
+
+
 # What is noted, the origins of the facts, and the first one as UTC.
 SCALES: dict[str, tuple[list[str], list[str], Optional[str]]] = {
     "utc": ([ORIGIN], [ORIGIN], "2025-12-01T12:00:00.250000000Z"),
@@ -117,6 +122,16 @@ SCALES: dict[str, tuple[list[str], list[str], Optional[str]]] = {
     "comes_to_be_known": ([NOBODY_KNOWS, TAI], [TAI], "2025-12-01T12:00:00.250000000Z"),
     "is_known_no_more": ([NOBODY_KNOWS, TAI, NOBODY_KNOWS], [NOBODY_KNOWS], None),
     "a_later_one_is_another": ([ORIGIN, SET], [ORIGIN, SET], "2025-12-01T12:00:00.250000000Z"),
+    "when_the_clock_was_set_is_known_better": (
+        [ORIGIN, numbered(1, 9), numbered(2, 30), numbered(1, 7)],
+        [ORIGIN, SET, SET.replace(": 7,", ": 30,")],
+        "2025-12-01T12:00:00.250000000Z",
+    ),
+    "counters_begin_at_0_again_meanwhile": (
+        [ORIGIN, numbered(1, 9), TAI, numbered(1, 7)],
+        [ORIGIN, TAI, SET],
+        "2025-12-01T12:00:00.250000000Z",
+    ),
 }
 
 

@@ -128,7 +128,7 @@ def test_each_recording_names_the_one_before(work: Path) -> None:
     played.finish()
     judge("without a hash", facts_of(ended)["before"] == {"recording": "gone", "sha256": None}, facts_of(ended))
     judge("it has no facts", not Path(f"{gone.out}.json").exists())
-    judge("it is said", played.err == [f"live: {gone.out} has no hash in its facts: {GONE}"], played.err)
+    judge("it is said", played.err == [f"bpfrec live: {gone.out} has no hash in its facts: {GONE}"], played.err)
     judge("all are finished", len(played.finished) == 6 and played.hashes.status == 0, played.finished)
 
 
@@ -138,7 +138,7 @@ def test_a_recording_without_facts_is_not_hashed(work: Path) -> None:
         played, ended = Played(sign), made(work / "out", b"bytes")
         played.hashes.add(1, ended, None, played.finished.append)
         played.finish()
-        line = f"live: {ended.out}.json isn't signed: {NO_FACTS}"
+        line = f"bpfrec live: {ended.out}.json isn't signed: {NO_FACTS}"
         found = (played.err, played.unsigned, played.hashes.status)
         judge("it is said", found == (([line], [(f"{ended.out}.json", NO_FACTS)], 1) if sign else ([], [], 0)), found)
         judge("nothing is there", sorted(it.name for it in work.iterdir()) == ["out", "private"])
@@ -152,8 +152,8 @@ def test_facts_that_can_not_be_written_have_no_signature(work: Path, monkeypatch
     played, ended = Played(lambda _: b"signature"), made(work / "out", b"bytes")
     played.add(ended)
     played.finish()
-    lines = [f"live: {ended.out} has no hash in its facts: No space left on device"]
-    lines += [f"live: {ended.out}.json isn't signed: {NO_HASH}"]
+    lines = [f"bpfrec live: {ended.out} has no hash in its facts: No space left on device"]
+    lines += [f"bpfrec live: {ended.out}.json isn't signed: {NO_HASH}"]
     judge("both are said", (played.err, played.hashes.status, played.finished) == (lines, 1, [()]), played.err)
 
 
@@ -187,7 +187,7 @@ def test_what_is_not_signed_is_said(work: Path) -> None:
     played.finish()
     found = (played.err, played.unsigned, played.hashes.status, played.finished)
     facts = f"{ended.out}.json"
-    judge("it is", found == ([f"live: {facts} isn't signed: why"], [(facts, "why")], 1, [()]), found)
+    judge("it is", found == ([f"bpfrec live: {facts} isn't signed: why"], [(facts, "why")], 1, [()]), found)
     judge("the hash stays", facts_of(ended)["sha256"] == hashlib.sha256(b"bytes").hexdigest())
 
 
@@ -227,7 +227,10 @@ def test_a_run_that_is_given_up_hashes_and_signs_no_more(work: Path) -> None:
     wait_for("the first is signed", (work / "a.json").exists)
     played.is_given_up = True
     played.finish()
-    lines = [f"live: {work}/a.json isn't signed: {GIVEN_UP}"]
-    lines += [f"live: {work}/b has no hash in its facts: {GIVEN_UP}", f"live: {work}/b.json isn't signed: {NO_HASH}"]
+    lines = [f"bpfrec live: {work}/a.json isn't signed: {GIVEN_UP}"]
+    lines += [
+        f"bpfrec live: {work}/b has no hash in its facts: {GIVEN_UP}",
+        f"bpfrec live: {work}/b.json isn't signed: {NO_HASH}",
+    ]
     judge("each is said", played.err == lines and played.hashes.status == 1, played.err)
     judge("nothing is signed", not list(work.glob("*.sig")) and not (work / "b.json").exists())

@@ -82,7 +82,7 @@ def test_what_has_to_go_goes_unhashed_and_the_next_one_names_it_without_a_hash(
     slow.let.set()
     played.finish()
     judge("and the other after that", gone == [second.out, first.out] and played.hashes.awaited() == "", gone)
-    lines = [f"live: {it.out} has no hash in its facts: why" for it in (second, first)]
+    lines = [f"bpfrec live: {it.out} has no hash in its facts: why" for it in (second, first)]
     judge("each is said, and an alarm", played.err == lines, played.err)
     judge("of its own", played.unhashed == [(second.out, "why"), (first.out, "why")], played.unhashed)
     judge("the third names the second", facts_of(third)["before"] == {"recording": "b", "sha256": None})
@@ -185,7 +185,7 @@ def test_what_the_end_waits_for_is_said_again_and_again(work: Path) -> None:
     judge("not at once", progress.deadline(5.0) == 5.0 + FIRST)
     for now in (5.0, 5.0 + FIRST - 0.1, 5.0 + FIRST, 5.0 + FIRST + 1):
         progress.tick(now)
-    judge("after a moment", err == ["live: waits for a"], err)
+    judge("after a moment", err == ["bpfrec live: waits for a"], err)
     awaited["file"] = "b"
     progress.tick(5.0 + FIRST + PAUSE)
-    judge("and again", err[1:] == ["live: waits for a", "live: waits for b"], err)
+    judge("and again", err[1:] == ["bpfrec live: waits for a", "bpfrec live: waits for b"], err)

@@ -13,6 +13,7 @@ import pytest
 from bpfrec_host.live.control.changes import Changes, Pipe
 from bpfrec_host.live.control.lines import MOST_HELD, MOST_MADE, ControlLines, ControlPorts
 from bpfrec_host.live.control.made_filters import MadeFilter
+from bpfrec_host.live.operands import Route
 from bpfrec_host.live.status import Terminal
 from support import judge, present
 
@@ -43,7 +44,11 @@ class Lines:
         terminal = SimpleNamespace(is_of=lambda _: True, note_typed=lambda: self.said.append("typed"))
         mark: Callable[..., None] = lambda text, _: self.said.append(f"mark {text.decode()}")
         ports = ControlPorts(self.stop, self.stop, self.report, mark, self.said.append, cast(Terminal, terminal))
-        changes = Changes(cast(Any, SimpleNamespace(top=work)), False, self.make)
+        channels = [SimpleNamespace(table={"id": it}) for it in (1, 2)]
+        routes = [Route("eth0", 1), Route("eth1", 2)]
+        settings = SimpleNamespace(channels=channels)
+        folder = SimpleNamespace(top=work, routes=routes, names={2: "bus B"}, settings=settings)
+        changes = Changes(cast(Any, folder), False, self.make)
         self.control = ControlLines(
             cast(Any, Loop()), cast(Any, given), changes, lambda: cast(Any, self.recorder), ports
         )
@@ -95,7 +100,53 @@ def test_the_terminal_is_told_of_all_lines_that_it_shows_before_one_is_answered(
 def test_a_fault_in_what_takes_a_line_is_said_and_ends_nothing(lines: Lines) -> None:
     lines.come(b"status\nmark a\n")
     lines.turn()
-    judge("it goes on", lines.said[2:] == ["live: status: ZeroDivisionError: a fault of ours", "mark a"], lines.said)
+    judge(
+        "it goes on",
+        lines.said[2:] == ["bpfrec live: status: ZeroDivisionError: a fault of ours", "mark a"],
+        lines.said,
+    )
+
+
+REASONS = {
+    "sett 2 arp": "no line sett, and help has all: did you mean set?",
+    "xyzzy": "no line xyzzy, and help has all",
+    "set 2": "it needs a channel and a filter, as set 7 udp port 5004",
+    "set": "it needs a channel and a filter, as set 7 udp port 5004",
+    "set 9 arp": "no channel 9: 1, 2",
+    "set eth9 arp": "no channel eth9: 1, 2",
+    'set "bus A" arp': 'no channel "bus: 1, 2',
+}
+
+
+@pytest.mark.parametrize("line", REASONS)
+def test_a_line_that_is_refused_says_why(lines: Lines, line: str) -> None:
+    lines.come(f"{line}\n".encode())
+    lines.turn()
+    judge("why", lines.said[1:] == [f"bpfrec live: {line}: {REASONS[line]}"], lines.said)
+    judge("and the recorder isn't asked", not lines.recorder.lines.unanswered and not lines.made)
+
+
+@pytest.mark.parametrize("name, channel", [("1", 1), ("eth1", 2), ('"bus B"', 2), ('"eth0"', 1)])
+def test_a_channel_may_be_named(lines: Lines, name: str, channel: int) -> None:
+    """By its ID, its interface or its name."""
+    lines.come(f"set {name} udp port 5\n".encode())
+    lines.turn()
+    judge("its filter is made", [it.change.channel for it in lines.control.held] == [channel] and len(lines.made) == 1)
+
+
+def test_all_lines_of_a_terminal_are_read_before_one_is_answered(lines: Lines) -> None:
+    """It gives them one by one, though it has shown all."""
+    keyboard, terminal = os.openpty()
+    os.set_blocking(terminal, False)
+    given, lines.control.input.descriptor = lines.control.input.descriptor, terminal
+    os.write(keyboard, b"mark a\nmark b\nmark c\n")
+    lines.control.read_input()
+    judge("all are read", lines.said == ["typed"] * 3, lines.said)
+    lines.turn()
+    judge("and then answered", lines.said[3:] == ["mark a", "mark b", "mark c"], lines.said)
+    lines.control.input.descriptor = given
+    os.close(keyboard)
+    os.close(terminal)
 
 
 def test_a_turn_takes_lines_for_a_moment(lines: Lines) -> None:

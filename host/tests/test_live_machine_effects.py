@@ -1,4 +1,4 @@
-"""Tries all that the machine of host/bin/live does and says in a run, in its order: none is left out, and none is more."""
+"""Tries all that the machine of bpfrec live does and says in a run, in its order: none is left out, and none is more."""
 
 from __future__ import annotations
 
@@ -143,7 +143,7 @@ def unprinted() -> World:
 
 WAS_KILLED = "was ended by signal 9"
 CUT = "out_1 has the packets that were written until then, which salvage copies"
-FULL = "live: out_1 can't be written any more"
+FULL = "bpfrec live: out_1 can't be written any more"
 END = "end_capture {0}, end_lines {0}, print_report {0}, audit {0}, conclude {0}"
 LAST, LAST_OF_TWO = END.format(1), END.format(2)
 RUNS = {
@@ -173,24 +173,24 @@ RUNS = {
     ),
     "killed_recorder": (
         killed_recorder,
-        f"{BEGIN}, live: bpfrec record {WAS_KILLED}: {CUT}, live: the next recording begins, hold_capture 1, "
+        f"{BEGIN}, bpfrec live: bpfrec record {WAS_KILLED}: {CUT}, bpfrec live: the next recording begins, hold_capture 1, "
         f"end_lines 1, {SECOND}, print_report 1, conclude 1, {LAST_OF_TWO}",
         137,
     ),
     "capture_that_ends_alone": (
         capture_that_ends_alone,
-        f"{BEGIN}, live: capture has ended, and its interfaces with it, end_lines 1, print_report 1, audit 1, conclude 1",
+        f"{BEGIN}, bpfrec live: capture has ended, and its interfaces with it, end_lines 1, print_report 1, audit 1, conclude 1",
         1,
     ),
     "dead_capture": (
         dead_capture,
-        f"{BEGIN}, live: capture {WAS_KILLED}, and its interfaces with it, end_lines 1, print_report 1, audit 1, "
+        f"{BEGIN}, bpfrec live: capture {WAS_KILLED}, and its interfaces with it, end_lines 1, print_report 1, audit 1, "
         "conclude 1",
         1,
     ),
     "dead_capture_at_the_start": (
         dead_capture_at_the_start,
-        f"start_recorder 1, start_capture 1, live: capture {WAS_KILLED}, and its interfaces with it, create 1, "
+        f"start_recorder 1, start_capture 1, bpfrec live: capture {WAS_KILLED}, and its interfaces with it, create 1, "
         "point_to 1, end_lines 1, open_pipes 1, print_report 1, audit 1, conclude 1",
         1,
     ),
@@ -198,8 +198,8 @@ RUNS = {
     "refused_out": (refused_out, "start_recorder 1, start_capture 1, create 1, kill_capture 1, kill_recorder 1", 3),
     "hurried": (
         hurried,
-        f"{BEGIN}, end_capture 1, end_capture 1, kill_capture 1, live: capture {WAS_KILLED}, and its interfaces with "
-        f"it, end_lines 1, kill_recorder 1, kill_audit 1, live: bpfrec record {WAS_KILLED}: {CUT}, print_report 1, "
+        f"{BEGIN}, end_capture 1, end_capture 1, kill_capture 1, bpfrec live: capture {WAS_KILLED}, and its interfaces with "
+        f"it, end_lines 1, kill_recorder 1, kill_audit 1, bpfrec live: bpfrec record {WAS_KILLED}: {CUT}, print_report 1, "
         "conclude 1",
         137,
     ),

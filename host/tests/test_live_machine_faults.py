@@ -1,4 +1,4 @@
-"""Tries the machine of host/bin/live by itself, without a process: full and failing disks, and killed recorders."""
+"""Tries the machine of bpfrec live by itself, without a process: full and failing disks, and killed recorders."""
 
 from __future__ import annotations
 
@@ -137,7 +137,7 @@ def test_ten_killed_recorders_in_a_row_within_a_minute_end_the_run() -> None:
     judge("nine don't", world.machine.current.number == 10 and world.is_capturing)
     killed(world, 1, 1)
     world.finish()
-    line = "live: 10 recorders in a row were killed within a minute: the recording ends"
+    line = "bpfrec live: 10 recorders in a row were killed within a minute: the recording ends"
     judge("the tenth does, with a line", world.said[-1] == line and not world.is_left(), world.said)
     judge("the status is that of the first", world.machine.status(False) == KILLED)
     judge("each is told", all(it.concluded == [KILLED] for it in world.played.values()))

@@ -95,7 +95,9 @@ def test_a_mark_is_of_the_recording_that_goes_on(work: Path) -> None:
     world.marks.ended(two)
     world.marks.take(b"late")
     world.marks.finish()
-    judge("one that none has is said too", world.said[-1] == "live: mark late: the recording has ended", world.said)
+    judge(
+        "one that none has is said too", world.said[-1] == "bpfrec live: mark late: the recording has ended", world.said
+    )
 
 
 def test_marks_of_a_recording_that_was_discarded_are_the_next_ones(work: Path) -> None:
@@ -117,16 +119,20 @@ def test_what_can_not_be_noted_is_said(work: Path) -> None:
     bare = world.recording(1, has_facts=False)
     world.marks.begun(bare)
     world.marks.take(b"x")
-    judge("without facts", world.said == ["live: mark x: f_1 has no facts, in which it would stand"], world.said)
+    judge("without facts", world.said == ["bpfrec live: mark x: f_1 has no facts, in which it would stand"], world.said)
     gone = world.recording(2)
     gone.made.rmdir()
     world.marks.begun(gone)
     world.marks.take(b"y")
-    judge("without room", world.said[-1] == "live: mark y: it can't be noted: No such file or directory", world.said)
+    judge(
+        "without room",
+        world.said[-1] == "bpfrec live: mark y: it can't be noted: No such file or directory",
+        world.said,
+    )
     world.marks.ended(gone)
     for _ in range(1_025):
         world.marks.take(b"z")
-    full = "live: mark: 1,024 wait for the next recording, and no more can"
+    full = "bpfrec live: mark: 1,024 wait for the next recording, and no more can"
     judge("so many wait at most", world.said[-1] == full and world.said.count(full) == 1, world.said[-1])
 
 

@@ -1,4 +1,4 @@
-"""Tries what host/bin/live makes, keeps and removes of recordings by themselves, without a run."""
+"""Tries what bpfrec live makes, keeps and removes of recordings by themselves, without a run."""
 
 from __future__ import annotations
 
@@ -85,18 +85,18 @@ def test_a_file_gets_its_name_once_it_is_whole(work: Path, is_there: bool, statu
     if is_there:
         out.write_text("another's")
     with tempfile.TemporaryFile() as told:
-        told.write(b"chapter11: why\n")
+        told.write(b"bpfrec export: why\n")
         files.end(Job(kept, str(out), str(following), told), status)
     left = {it.name: it.read_text() for it in work.glob("x.*")}
     is_named = status == 0 and not is_there
     wanted = "this one's" if is_named else "another's"
     judge("it has its name", left == ({out.name: wanted} if is_named or is_there else {}), left)
     line = (
-        f"{out}: chapter11: why"
+        f"{out}: bpfrec export: why"
         if is_named
-        else f"{out} isn't made: " + ("chapter11: why" if status else "File exists")
+        else f"{out} isn't made: " + ("bpfrec export: why" if status else "File exists")
     )
-    judge("it is said", err == [f"live: {line}"], err)
+    judge("it is said", err == [f"bpfrec live: {line}"], err)
     judge("and goes with its recording", kept.beside == ([str(out)] if is_named else []), kept)
     judge("the status is its own", files.status == (0 if is_named else status or 3), files.status)
 
@@ -115,7 +115,7 @@ def test_a_recording_that_has_to_go_waits_for_no_whole_file(work: Path) -> None:
             files.let_go(kept.out, "why", partial(gone.append, kept.out))
         judge("one that waits goes", gone == [second.out] and not files.waiting, gone)
         files.end(files.job, 137)
-    lines = [f"live: {work}/b.ch10 isn't made: why", f"live: {work}/a.ch10 isn't made: why"]
+    lines = [f"bpfrec live: {work}/b.ch10 isn't made: why", f"bpfrec live: {work}/a.ch10 isn't made: why"]
     judge(
         "and one in work",
         (gone, err, files.awaited(), files.status) == ([second.out, first.out], lines, "", 0),

@@ -1,4 +1,4 @@
-"""Tries which recordings of host/bin/live are removed, without a run: by how many they are, and by the room on a disk."""
+"""Tries which recordings of bpfrec live are removed, without a run: by how many they are, and by the room on a disk."""
 
 from __future__ import annotations
 
@@ -82,7 +82,7 @@ def test_the_oldest_is_removed_once_there_are_more_than_stay_with_all_that_goes_
     judge("as many as stay", disk.left() == files_of(0, 1, 2) and disk.err == [], disk.left())
     made.add(kept(disk.work / "3.ch11"))
     made.join()
-    line = f"live: {disk.work}/0.ch11 was removed: --keep 3"
+    line = f"bpfrec live: {disk.work}/0.ch11 was removed: --keep 3"
     judge("one more", (disk.left(), disk.err) == (files_of(1, 2, 3), [line]), (disk.left(), disk.err))
     judge("no disk is looked at", made.deadline() is None)
 
@@ -123,7 +123,7 @@ def test_where_a_disk_lacks_room_the_oldest_alone_is_removed_and_the_next_a_seco
     judge("as much as is to be free is enough", look(made, PAUSE) == 3 and made.deadline() == 2 * PAUSE)
     disk.room = FREE - 1
     judge("the next one goes where it isn't", look(made, 2 * PAUSE) == 2)
-    lines = [f"live: {disk.work}/{number}.ch11 was removed: --keep-free {FREE}" for number in (0, 1)]
+    lines = [f"bpfrec live: {disk.work}/{number}.ch11 was removed: --keep-free {FREE}" for number in (0, 1)]
     judge("each is said", (disk.err, disk.left()) == (lines, files_of(2, 3)), disk.err)
 
 

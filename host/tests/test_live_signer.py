@@ -117,7 +117,7 @@ def test_the_trial_at_the_start_has_less_time(played: Path, monkeypatch: pytest.
     write(played, "exec sleep 600")
     judge("ten seconds", (signer.LONGEST_TRIAL, signer.LONGEST) == (10.0, 30.0))
     monkeypatch.setattr(ahead, "LONGEST_TRIAL", 1.0)
-    with pytest.raises(Refusal, match="^live: --sign k: ssh-keygen took over 1 s$"):
+    with pytest.raises(Refusal, match="^bpfrec live: --sign k: ssh-keygen took over 1 s$"):
         refuse_signing(read(["--sign", "k", "settings", "out", "eth0=1"]))
 
 

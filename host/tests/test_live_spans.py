@@ -1,4 +1,4 @@
-"""Tries the spans of host/bin/live: which a channel gets, what the recorder and the capture get of it, and parts of
+"""Tries the spans of bpfrec live: which a channel gets, what the recorder and the capture get of it, and parts of
 seconds."""
 
 from __future__ import annotations
@@ -78,7 +78,7 @@ def test_a_span_of_settings_that_is_none_is_refused_by_its_channel(settings: Pat
         settings.write_text(text.replace("span = 70", f"span = {value}"))
         with pytest.raises(Refusal) as refused:
             judge_spans(read_settings(str(settings))[1])
-        line = f"live: {settings}: channel 2: settings 4 Value span: {why}"
+        line = f"bpfrec live: {settings}: channel 2: settings 4 Value span: {why}"
         judge(value, (refused.value.status, refused.value.line) == (2, line), refused.value.line)
 
 
@@ -102,5 +102,5 @@ def test_parts_of_seconds_are_taken_and_others_refused(capsys: pytest.CaptureFix
             with pytest.raises(SystemExit) as ended:
                 read([f"{option}={word}", "o.ch11", "rx0"])
             told = capsys.readouterr().err
-            line = f"live: {option} needs a number {needed}, {parts}\n"
+            line = f"bpfrec live: {option} needs a number {needed}, {parts}\n"
             judge(f"{option} {word!r}", (ended.value.code, told) == (2, line), told)

@@ -1,4 +1,4 @@
-"""Tries parts of host/bin/live by themselves, without root: streams, lines, the loop, watches and programs."""
+"""Tries parts of bpfrec live by themselves, without root: streams, lines, the loop, watches and programs."""
 
 import contextlib
 import fcntl
@@ -51,7 +51,11 @@ def test_lines_without_room_are_counted_and_the_next_one_says_so() -> None:
     fcntl.fcntl(writes, 1031, 1 << 16)
     lines.put("after")
     told = os.read(reads, 4_096).decode()
-    judge("the lines are counted", told == "live: 20 lines were left out: standard error had no room\nafter\n", told)
+    judge(
+        "the lines are counted",
+        told == "bpfrec live: 20 lines were left out: standard error had no room\nafter\n",
+        told,
+    )
     os.close(reads)
     lines.put("to nobody")
     judge("a stream that is gone holds nothing up", lines.left_out == 0)

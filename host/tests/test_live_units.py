@@ -1,4 +1,4 @@
-"""Tries parts of host/bin/live by themselves, without root: operands, names, files and what is kept safe."""
+"""Tries parts of bpfrec live by themselves, without root: operands, names, files and what is kept safe."""
 
 import contextlib
 import errno
@@ -49,11 +49,11 @@ def test_interfaces_and_their_filters_are_taken_apart(work: Path) -> None:
         routes = [tuple(it) for it in found.routes]
         judge_quietly(f"{given}: {found}", (found.settings, found.out, routes) == wanted)
     for given, line in [
-        (["s.toml", "out", "eth0=65536x"], "live: eth0=65536x: a channel ID is 1 to 65535"),
-        (["s.toml", "out", "eth0=0"], "live: eth0=0: a channel ID is 1 to 65535"),
-        (["s.toml", "out", "=1"], "live: no INTERFACE=CHANNEL: =1"),
-        (["s.toml", "out", "a=1", "b=1"], "live: channel 1 has two interfaces"),
-        (["s.toml", "lo"], "live: OUT is missing: it stands between s.toml and lo"),
+        (["s.toml", "out", "eth0=65536x"], "bpfrec live: eth0=65536x: a channel ID is 1 to 65535"),
+        (["s.toml", "out", "eth0=0"], "bpfrec live: eth0=0: a channel ID is 1 to 65535"),
+        (["s.toml", "out", "=1"], "bpfrec live: no INTERFACE=CHANNEL: =1"),
+        (["s.toml", "out", "a=1", "b=1"], "bpfrec live: channel 1 has two interfaces"),
+        (["s.toml", "lo"], "bpfrec live: OUT is missing: it stands between s.toml and lo"),
     ]:
         judge_quietly(f"{given}", refused(functools.partial(operands.operands_of, given)) == (2, line))
     judge("operands are taken apart, and what is missing is named", True)
@@ -67,12 +67,12 @@ def test_options_of_the_capture_keep_their_order(capsys: pytest.CaptureFixture) 
     )
     judge("and the rest is read", (given.every, given.sync, given.is_rotating()) == (5, 1, True))
     for words_given, line in [
-        (["--origin"], "live: --origin needs a value"),
-        (["--every"], "live: --every needs a value"),
-        (["--size", "0"], "live: --size needs a number from 1 on, in bytes, or as 2G"),
-        (["--nonsense", "x", "y"], "live: no such option: --nonsense"),
-        (["-x", "a", "b"], "live: no such option: -x"),
-        (["--eve", "3"], "live: no such option: --eve"),
+        (["--origin"], "bpfrec live: --origin needs a value"),
+        (["--every"], "bpfrec live: --every needs a value"),
+        (["--size", "0"], "bpfrec live: --size needs a number from 1 on, in bytes, or as 2G"),
+        (["--nonsense", "x", "y"], "bpfrec live: no such option: --nonsense"),
+        (["-x", "a", "b"], "bpfrec live: no such option: -x"),
+        (["--eve", "3"], "bpfrec live: no such option: --eve: did you mean --every?"),
     ]:
         with pytest.raises(SystemExit) as caught:
             arguments.read(words_given)
@@ -112,7 +112,7 @@ def test_force_opens_what_is_there_and_empties_nothing(work: Path) -> None:
     judge("a folder isn't OUT", refused(lambda: Files(is_forced=True).refuse_overwriting(str(work)))[0] == 3)
     judge(
         "nor has it one",
-        refused(lambda: names.refuse_folder(str(work / "no/x"))) == (3, f"live: {work}/no/x: no such folder"),
+        refused(lambda: names.refuse_folder(str(work / "no/x"))) == (3, f"bpfrec live: {work}/no/x: no such folder"),
     )
 
 

@@ -131,7 +131,7 @@ def test_lines_wait_with_what_the_recorder_gets_of_them(folder: Folder, keeps: b
     wrong = changes.held(b"set 1 udp prt 5004")
     assert wrong.made
     wrong.made.refuse("syntax error")
-    judge("a fault has the line", wrong.fault() == "live: set 1 udp prt 5004: syntax error", wrong.fault())
+    judge("a fault has the line", wrong.fault() == "bpfrec live: set 1 udp prt 5004: syntax error", wrong.fault())
     other = changes.held(b"nonsense")
     judge("another line goes as it is", other.asked()[0] == b"nonsense" and other.is_ready() and other.word is None)
     judge("a word is one", Held(b"stop").word is Word.STOP)
@@ -161,6 +161,8 @@ def test_a_run_ends_once_after_its_time_from_the_first_recording_on() -> None:
     [
         ("90", 90),
         ("10m", 600),
+        ("10min", 600),
+        ("1h30min", 5_400),
         ("1h30m", 5_400),
         ("1d2h3m4s", 93_784),
         ("1h30", None),

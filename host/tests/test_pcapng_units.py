@@ -1,4 +1,4 @@
-"""Tries parts of host/bin/pcapng by themselves: many packets, many filters, and what no capture has."""
+"""Tries parts of bpfrec export by themselves: many packets, many filters, and what no capture has."""
 
 from __future__ import annotations
 

@@ -1,4 +1,4 @@
-"""Tries the datagrams that host/bin/publish sends by a reader of its own, and what host/bin/receive makes of them."""
+"""Tries the datagrams that bpfrec publish sends by a reader of its own, and what bpfrec receive makes of them."""
 
 from __future__ import annotations
 

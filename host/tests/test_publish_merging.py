@@ -1,4 +1,4 @@
-"""Tries the order in which host/bin/publish puts out what channels have, and the pieces that it cuts packets into."""
+"""Tries the order in which bpfrec publish puts out what channels have, and the pieces that it cuts packets into."""
 
 from __future__ import annotations
 

@@ -1,4 +1,4 @@
-"""Tries the packets that host/bin/publish makes beside those of the second writer of whole Chapter 11 files."""
+"""Tries the packets that bpfrec publish makes beside those of the second writer of whole Chapter 11 files."""
 
 from __future__ import annotations
 

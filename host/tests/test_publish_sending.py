@@ -1,4 +1,4 @@
-"""Tries what host/bin/publish does where its socket refuses datagrams, which is played, and addresses as users write
+"""Tries what bpfrec publish does where its socket refuses datagrams, which is played, and addresses as users write
 them."""
 
 from __future__ import annotations

@@ -10,6 +10,8 @@ from typing import NamedTuple
 
 import pytest
 from bpfrec_host.formats.clock_state import ClockState
+from bpfrec_host.live.status.as_json import kept_rates, offered_rates
+from bpfrec_host.live.status.view import Second
 from schemas import FORMATS, faults, schema_of
 from scripted import BEGIN, Alarm, Counts, Flight, Setup, Status, View, Wire, alarms, as_json, metrics, wires_of
 from support import judge, judge_quietly, outcome, present
@@ -265,3 +267,23 @@ def test_the_page_has_each_metric_and_each_alarm(flights: dict) -> None:
     judge("the alarms too", listed == set(metrics.ALARMS), listed ^ set(metrics.ALARMS))
     names = set(schema_of("status")["$defs"]["alarm"]["properties"]["name"]["enum"])
     judge("and those of the schema", names == listed, names ^ listed)
+
+
+def seconds(*pairs: tuple[float | None, float]) -> tuple[Second, ...]:
+    """Seconds with so many frames that came and that were kept, of 100 bytes each."""
+    return tuple(
+        Second(came, None if came is None else came * 100, kept, kept * 100, 0, 0, 0, 0, 0, None)
+        for came, kept in pairs
+    )
+
+
+def test_rates_of_what_came_and_what_was_kept_are_of_the_same_ten_seconds() -> None:
+    steady = seconds(*[(1_000.0, 1_000.0)] * 12)
+    judge("a filter that keeps all", offered_rates(steady) == kept_rates(steady) == (1_000, 100_000))
+    begun = seconds((1_000.0, 0.0), *[(1_000.0, 1_000.0)] * 9)
+    judge("what waits for a packet", (offered_rates(begun), kept_rates(begun)) == ((1_000, 100_000), (900, 90_000)))
+    silent = seconds(*[(1_000.0, 1_000.0)] * 30, *[(0.0, 0.0)] * 10)
+    judge("a channel that fell silent keeps nothing either", offered_rates(silent) == kept_rates(silent) == (0, 0))
+    unknown = seconds(*[(1_000.0, 1_000.0)] * 5, (None, 1_000.0))
+    judge("one whose counts don't come", offered_rates(unknown) is None and kept_rates(unknown) == (1_000, 100_000))
+    judge("none yet", (offered_rates(()), kept_rates(())) == (None, None))

@@ -95,8 +95,8 @@ STATUS: dict[str, Any] = {
             "version": 5,
             "filter": "udp",
             "changes": 6,
-            "offered": {"frames": 201, "bytes": 202, "frames_per_second": 21.0, "bytes_per_second": 22.0},
-            # Of all seconds that are shown.
+            # A second, of the same seconds.
+            "offered": {"frames": 201, "bytes": 202, "frames_per_second": 16.0, "bytes_per_second": 17.0},
             "kept": {"frames": 207, "bytes": 208, "frames_per_second": 23.0, "bytes_per_second": 34.0},
             "dropped": 203,
             "missed": 204,

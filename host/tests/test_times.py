@@ -7,12 +7,13 @@ import time
 from datetime import datetime, timezone
 
 import pytest
-from bpfrec_host.convert import moments
 from bpfrec_host.formats.facts import Facts, utc_of
+from bpfrec_host.formats.moments import moment_of
 from bpfrec_host.formats.time_of_day import first_from, last_to, time_of_day
 from bpfrec_host.live.arguments import read
 from bpfrec_host.pcapng.times import Asked, Time, Times, dated, time_of
 from bpfrec_host.streams import Refused
+from conversion import moments
 from expected_facts import UNKNOWN_SCALE, facts_of_run
 from support import SECOND, judge, judge_quietly
 
@@ -144,7 +145,7 @@ ODD_DAYS: tuple[object, ...] = (
 
 def test_an_origin_of_a_capture_file_needs_its_date() -> None:
     why = "23:36:10.5 has no date, and no facts give one here: it takes that too, as 2025-12-01T23:36:10.5Z"
-    for call in (moments.moment_of, moments.origin_of):
+    for call in (moment_of, moments.origin_of):
         with pytest.raises(argparse.ArgumentTypeError, match=f"^{why}$"):
             call("23:36:10.5")
     judge("by its name", True)

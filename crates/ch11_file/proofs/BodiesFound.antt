@@ -1,18 +1,17 @@
 -- The bodies of a whole file's packets are read back: its numbers have their widths, where the file isn't too long.
-use Rattle.std.proofs.Common.{ℕ, ◌+◌, ◌*◌, ◌≡◌, ◌≤◌, ◌<◌, List, [], ◌∷◌, ◌++◌, length, Option, None, Some, refl, sym, subst, ap, ◌∙◌, arith}
-use Rattle.std.specs.Prelude.{◌^◌, IfSome, max}
+use Rattle.std.proofs.Common.{ℕ, ◌+◌, ◌≡◌, ◌<◌, List, [], ◌∷◌, ◌++◌, length, Option, None, Some, refl, sym, subst, ap, arith}
+use Rattle.std.specs.Prelude.{◌^◌, IfSome}
 use Rattle.std.specs.Int.{w32, to_le_bytes}
 use Rattle.std.specs.List.{AllByRecursion, flat_map}
 use Rattle.std.proofs.lemmas.List.{length-append}
 use Rattle.ch11_packet.specs.Header.{IsHeader}
-use Rattle.ch11_packet.specs.PacketLen.{written_len}
 use Rattle.ch11_packet.specs.Profiles.Profile.{WithSum}
 use Rattle.ch11_packet.proofs.Lengths.{length-packet}
 use Rattle.ch11_index.specs.declared.entry.NodeEntry.{NodeEntry}
 use Rattle.ch11_index.specs.declared.entry.RootEntry.{RootEntry}
 use Rattle.ch11_index.specs.IndexBytes.{node_entry_bytes, root_entry_bytes, node_bytes, root_bytes}
-use Rattle.ch11_index.specs.IndexBodies.{HoldsNode, HoldsRoot, IsNodeEntry, IsRootEntry}
-use Rattle.ch11_index.specs.FileIndex.{IndexState, after_packet, after_node, after_root, before_or, here_of, last_entry, empty_index}
+use Rattle.ch11_index.specs.IndexBodies.{IsNodeEntry, IsRootEntry}
+use Rattle.ch11_index.specs.FileIndex.{IndexState, after_packet, after_node, after_root, before_or, here_of, empty_index}
 use Rattle.ch11_index.proofs.BodiesRead.{node_read, root_read, all_with}
 use Rattle.ch11_clock.proofs.TimesRead.{time_read}
 use Rattle.ch11_file.specs.FileBlocks.{BlockContent, FileBlock, block_body, block_header, block_len, block_packet, file_bytes, named_of}

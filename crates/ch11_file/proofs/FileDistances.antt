@@ -97,9 +97,9 @@ piece_before greatest counter old new channel piece p most =
 
 frames_near : (facts : FileFacts) (last tick : ℕ) (piece : FilePiece) → ((counter : ℕ) → counter < tick → IsNear facts.rules last counter)
     → LiesBefore piece tick → FramesLieNear facts.rules last piece
-frames_near facts last tick (OfFrames frames) near lies =
+frames_near facts last tick (OfFrames place frames) near lies =
     weaker (λ (f : ReadFrameData). f.counter < tick) (λ (f : ReadFrameData). IsNear facts.rules last f.counter) (λ f lt. near f.counter lt) frames lies
-frames_near facts last tick (OfRecord counter body) near lies = tt
+frames_near facts last tick (OfRecord place counter body) near lies = tt
 
 stage_setup : BeforeSetup ≢ Merging
 stage_setup e = cc

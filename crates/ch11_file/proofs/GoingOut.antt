@@ -16,7 +16,7 @@ use Rattle.ch11_file.specs.declared.kind.BlockKind.{BlockKind}
 use Rattle.ch11_file.specs.declared.kind.BlockKind.TheVariants.{Setup, Time, Frames, Record, Index}
 use Rattle.ch11_file.specs.FileBlocks.{FileBlock, block_header, block_packet, block_len, block_body, data_type, file_bytes, kind_of, blocks_on, blocks_of}
 use Rattle.ch11_file.specs.WholeFile.{FileFacts, FileState, MergeState, GoesNext, GoOut, AreNumbered, BeginsFile, file_state}
-use Rattle.ch11_file.specs.FileEnds.{HoldsFront, HoldsWhole, counts_of}
+use Rattle.ch11_file.specs.FileEnds.{HoldsFront, counts_of}
 use Rattle.ch11_file.specs.Sending.{SentState, AreNextNumbers, HasSent, counts_behind}
 
 -- ---- one packet more
@@ -178,14 +178,4 @@ front_sent facts before held sent merge has = record {
   begins = has.begins;
   len = length (file_bytes has.blocks);
   grows = subst (Appends before held) (sym (take_all _ (file_bytes has.blocks) (omega arith))) has.grows;
-}
-
-pub whole_sent : (facts : FileFacts) (before held : Option (List ℕ)) (sent : SentState) (merge : MergeState) → HasSent facts before held sent merge
-    → HoldsWhole facts before held
-whole_sent facts before held sent merge has = record {
-  blocks = has.blocks;
-  now = file_state sent.index merge;
-  begins = has.begins;
-  grows = has.grows;
-  stands = tt;
 }

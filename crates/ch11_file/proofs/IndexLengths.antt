@@ -1,21 +1,16 @@
 -- How long the packets of an index are.
-use Rattle.std.proofs.Common.{ℕ, ◌+◌, ◌*◌, ◌≡◌, ◌≢◌, ◌<◌, ◌≤◌, List, [], ◌∷◌, ◌++◌, length, Option, None, Some, refl, subst, ap, ◌∙◌, arith}
-use Rattle.std.specs.Prelude.{◌^◌, Bool, true, false}
+use Rattle.std.proofs.Common.{ℕ, ◌+◌, ◌*◌, ◌≡◌, ◌<◌, ◌≤◌, List, [], ◌∷◌, ◌++◌, length, refl, ap, ◌∙◌, arith}
+use Rattle.std.specs.Prelude.{◌^◌}
 use Rattle.std.specs.Int.{w32, to_le_bytes}
 use Rattle.std.specs.List.{flat_map}
 use Rattle.std.proofs.lemmas.List.{length-append}
 use Rattle.std.proofs.lemmas.List.Concat.{flat_map-cons}
-use Rattle.std.proofs.lemmas.Bool.Decides.{nat_tests}
 use Rattle.ch11_packet.specs.PacketLen.{written_len}
 use Rattle.ch11_packet.specs.Profiles.Profile.{WithSum}
 use Rattle.ch11_index.specs.declared.index.TheConstants.{MOST_NAMED}
-use Rattle.ch11_index.specs.declared.index.IndexPacket.{IndexPacket}
-use Rattle.ch11_index.specs.declared.index.IndexPacket.TheVariants.{Node, Root}
 use Rattle.ch11_index.specs.declared.entry.NodeEntry.{NodeEntry}
 use Rattle.ch11_index.specs.declared.entry.RootEntry.{RootEntry}
 use Rattle.ch11_index.specs.IndexBytes.{node_entry_bytes, root_entry_bytes, node_bytes, root_bytes}
-use Rattle.ch11_index.specs.FileIndex.{IndexState, here_of, after_node, after_root, due, due_at_end, root_at_end, left_at_end}
-use Rattle.ch11_file.specs.Sending.{index_next}
 
 -- ---- lengths
 

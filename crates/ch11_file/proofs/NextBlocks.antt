@@ -1,6 +1,6 @@
 -- What goes out next of a file: a time packet, or a piece.
-use Rattle.std.proofs.Common.{ℕ, ◌≡◌, ◌≢◌, ◌<◌, inl, inr, List, [], ◌∷◌, Option, None, Some, refl, sym, subst, ap, ◌∙◌, arith}
-use Rattle.std.specs.Prelude.{Bool, true, false, nat_lt, nat_eq, ◌&&◌, ◌||◌, if◌then◌else◌, unwrap_or, IfSome}
+use Rattle.std.proofs.Common.{ℕ, ◌≡◌, ◌≢◌, ◌<◌, List, [], ◌∷◌, Option, None, Some, refl, sym, subst, ap, ◌∙◌, arith}
+use Rattle.std.specs.Prelude.{Bool, true, false, nat_lt, nat_eq, ◌&&◌, ◌||◌, if◌then◌else◌, unwrap_or, IfSome, IsSomeAnd}
 use Rattle.std.proofs.lemmas.Bool.{true≢false}
 use Rattle.std.proofs.lemmas.Bool.Decides.{nat_tests}
 use Rattle.ch11_clock.specs.declared.time_point.TimePoint.{TimePoint}
@@ -10,24 +10,22 @@ use Rattle.ch11_clock.specs.TimePoints.{PointsLeft, IsTimePoint}
 use Rattle.ch11_packet.specs.FramesRead.{ReadFrameData}
 use Rattle.ch11_merge.specs.declared.source.Head.{Head}
 use Rattle.ch11_merge.specs.declared.source.Head.TheVariants.{At, Uncounted, End}
-use Rattle.ch11_merge.specs.Merging.{FilePiece, ChannelLeft, IsNextAt, TimeIsNext, PieceIsNext, TakesPart, head_of, head_of_piece, is_ahead, is_due}
-use Rattle.ch11_merge.specs.Merging.{part_before, frames_before}
+use Rattle.ch11_merge.specs.Merging.{FilePiece, ChannelLeft, IsNextAt, StandsFirst, TimeIsNext, PieceIsNext, TakesPart, head_of, head_of_piece}
+use Rattle.ch11_merge.specs.Merging.{is_ahead, is_due, part_before, frames_before}
 use Rattle.ch11_merge.specs.Merging.FilePiece.{OfFrames, OfRecord}
-use Rattle.ch11_merge.specs.Placing.{Answers, IsNextHead}
+use Rattle.ch11_merge.specs.Placing.{Answers, IsNextPiece}
+use Rattle.ch11_merge.specs.declared.placed.NextPiece.{NextPiece}
 use Rattle.ch11_merge.specs.declared.placed.Placed.{Placed}
 use Rattle.ch11_merge.specs.declared.placed.Placed.TheVariants.{Time, Piece}
 use Rattle.ch11_merge.proofs.Merged.{has_head}
 use Rattle.ch11_merge.proofs.Places.{all_there}
 use Rattle.ch11_file.specs.FileTimes.{IsNextTick, WalksTimes, tick_of}
-use Rattle.ch11_file.specs.declared.end.Refusal.TheVariants.{Disorder, Gap, Origin, Year}
-use Rattle.ch11_file.specs.declared.end.FileEnd.{FileEnd}
-use Rattle.ch11_file.specs.declared.end.FileEnd.TheVariants.{Refused, Pieces, Write}
-use Rattle.ch11_file.specs.WholeFile.{FileFacts, FileStage, TimeIsDue, TimeGoesNext, PieceGoesNext, IsBehind, IsFarAhead, counter_of}
+use Rattle.ch11_file.specs.declared.end.Refusal.TheVariants.{Gap}
+use Rattle.ch11_file.specs.WholeFile.{FileFacts, FileStage, MergeState, TimeIsDue, TimeGoesNext, PieceGoesNext, IsBehind, IsFarAhead, counter_of}
 use Rattle.ch11_file.specs.WholeFile.{file_state, merge_state}
-use Rattle.ch11_file.specs.FileEnds.{FileFails, IsGap, IsGapOrPieces}
+use Rattle.ch11_file.specs.FileEnds.{HasNoGap, HoldsUpTo, IsGap, IsRefused}
 use Rattle.ch11_file.specs.Sending.{SentState, HasSent}
-use Rattle.ch11_file.proofs.GoingOut.{whole_sent}
-use Rattle.ch11_file.specs.WholeFile.FileStage.{Merging}
+use Rattle.ch11_file.specs.WholeFile.FileStage.{BeforeSetup, BeforeTime, Merging}
 
 -- ---- a time packet
 
@@ -96,16 +94,16 @@ one_head_next channels at other c d p q =
     (all_there (λ (e : ChannelLeft). is_ahead (head_of e.pieces) e.channel (head_of c.pieces) c.channel ≡ false) channels other d p.least q.there)
 
 -- the part of a piece that goes out stands where the piece does
-same_first : (tick : ℕ) (frames : List ReadFrameData) → is_due tick (head_of_piece (OfFrames frames)) ≡ false
-    → head_of_piece (OfFrames (frames_before tick frames)) ≡ head_of_piece (OfFrames frames)
-same_first tick [] early = refl
-same_first tick (f ∷ fs) early =
+same_first : (tick place : ℕ) (frames : List ReadFrameData) → is_due tick (head_of_piece (OfFrames place frames)) ≡ false
+    → head_of_piece (OfFrames place (frames_before tick frames)) ≡ head_of_piece (OfFrames place frames)
+same_first tick place [] early = refl
+same_first tick place (f ∷ fs) early =
     let lt : nat_lt f.counter tick ≡ true = grind (arith, nat_tests) in
-    ap (λ b. head_of_piece (OfFrames (if b then f ∷ frames_before tick fs else []))) lt
+    ap (λ b. head_of_piece (OfFrames place (if b then f ∷ frames_before tick fs else []))) lt
 
 part_head : (tick : ℕ) (piece : FilePiece) → is_due tick (head_of_piece piece) ≡ false → head_of_piece (part_before tick piece) ≡ head_of_piece piece
-part_head tick (OfFrames frames) early = same_first tick frames early
-part_head tick (OfRecord counter body) early = refl
+part_head tick (OfFrames place frames) early = same_first tick place frames early
+part_head tick (OfRecord place counter body) early = refl
 
 pub taken_head : (tick : ℕ) (pieces rest : List FilePiece) (piece : FilePiece) → TakesPart tick pieces piece rest → is_due tick (head_of pieces) ≡ false
     → head_of_piece piece ≡ head_of pieces
@@ -118,54 +116,75 @@ pub piece_head_next : (tick at channel : ℕ) (old new : List ChannelLeft) (of :
 piece_head_next tick at channel old new of piece judged is =
     taken_head tick is.of.pieces is.rest piece is.takes is.early ∙ one_head_next old is.at at is.of of is.is_next judged
 
-head_judged : (left : List ChannelLeft) (head : Head) (at : ℕ) (of : ChannelLeft) → IsNextHead left head → IsNextAt left at of → head ≡ head_of of.pieces
-head_judged left head at of (inl none) is =
-    absurd (is.some (all_there (λ (d : ChannelLeft). d.pieces ≡ []) left at of none.0 is.there))
-head_judged left head at of (inr next) is = next.3 ∙ one_head_next left next.0 at next.1 of next.2 is
+-- the next piece doesn't lie too far ahead
+abbrev pub LiesNear : (greatest : ℕ) → Option NextPiece → Type 0
+LiesNear greatest next = IfSome next (λ piece. ¬ IsFarAhead greatest piece.head)
 
-pub time_due : (greatest tick now : ℕ) (left : List ChannelLeft) (head : Head) → tick ≡ now → IsNextHead left head → ¬ IsFarAhead greatest head
+near_next : (greatest at : ℕ) (left : List ChannelLeft) (next : Option NextPiece) (of : ChannelLeft) → IsNextPiece left next → LiesNear greatest next
+    → IsNextAt left at of → ¬ IsFarAhead greatest (head_of of.pieces)
+near_next greatest at left None of judged near is =
+    absurd (is.some (all_there (λ (d : ChannelLeft). d.pieces ≡ []) left at of judged is.there))
+near_next greatest at left (Some next) of judged near is = λ far. near (subst (IsFarAhead greatest)
+    (sym (judged.head_is ∙ one_head_next left judged.at at judged.of of judged.is_next is)) far)
+
+pub time_due : (greatest tick now : ℕ) (left : List ChannelLeft) (next : Option NextPiece) → tick ≡ now → IsNextPiece left next → LiesNear greatest next
     → TimeIsNext tick left → TimeIsDue greatest Merging now left
-time_due greatest tick now left head same judged near next =
-    let there = subst (λ (n : ℕ). TimeIsNext n left) same next in (
+time_due greatest tick now left next same judged near due =
+    let there = subst (λ (n : ℕ). TimeIsNext n left) same due in (
       there,
-      λ far. near (subst (IsFarAhead greatest) (sym (head_judged left head there.at there.of judged there.is_next)) far),
+      near_next greatest there.at left next there.of judged near there.is_next,
     )
 
-pub piece_near : (greatest tick channel : ℕ) (left new : List ChannelLeft) (head : Head) (piece : FilePiece) → IsNextHead left head
-    → ¬ IsFarAhead greatest head → PieceIsNext tick left channel piece new → ¬ IsFarAhead greatest (head_of_piece piece)
-piece_near greatest tick channel left new head piece judged near is = λ far. near (subst (IsFarAhead greatest)
-    (piece_head_next tick is.at channel left new is.of piece is.is_next is ∙ sym (head_judged left head is.at is.of judged is.is_next)) far)
+pub piece_near : (greatest tick channel : ℕ) (left new : List ChannelLeft) (next : Option NextPiece) (piece : FilePiece) → IsNextPiece left next
+    → LiesNear greatest next → PieceIsNext tick left channel piece new → ¬ IsFarAhead greatest (head_of_piece piece)
+piece_near greatest tick channel left new next piece judged near is = λ far. near_next greatest is.at left next is.of judged near is.is_next
+    (subst (IsFarAhead greatest) (piece_head_next tick is.at channel left new is.of piece is.is_next is) far)
 
 -- ---- a gap
 
-not_far : (greatest : ℕ) → IsFarAhead greatest End → ⊥
-not_far greatest far = omega (arith, far)
+-- a source fails where no gap is
+pub no_gap : (greatest tick : ℕ) (left : List ChannelLeft) (next : Option NextPiece) → IsNextPiece left next → LiesNear greatest next
+    → HasNoGap greatest (merge_state Merging tick left)
+no_gap greatest tick left next judged near = λ stage place gap. near_next greatest gap.at left next gap.of judged near gap.is_next gap.far
 
-pub is_gap : (greatest tick : ℕ) (left : List ChannelLeft) (head : Head) → IsNextHead left head → IsFarAhead greatest head
-    → IsGap greatest (merge_state Merging tick left)
-is_gap greatest tick left head (inl none) far = absurd (not_far greatest (subst (IsFarAhead greatest) none.1 far))
-is_gap greatest tick left head (inr next) far = record {
-  at = next.0;
-  of = next.1;
-  is_next = next.2;
-  far = subst (IsFarAhead greatest) next.3 far;
+pub no_gap_due : (greatest tick : ℕ) (stage : FileStage) (left : List ChannelLeft) → TimeIsDue greatest stage tick left
+    → HasNoGap greatest (merge_state stage tick left)
+no_gap_due greatest tick BeforeSetup left due = absurd due
+no_gap_due greatest tick BeforeTime left due = λ stage place gap. cc
+no_gap_due greatest tick Merging left due = λ stage place gap.
+    due.1 (subst (IsFarAhead greatest) (one_head_next left gap.at due.0.at gap.of due.0.of gap.is_next due.0.is_next) gap.far)
+
+pub pieces_fail : (facts : FileFacts) (before held : Option (List ℕ)) (sent : SentState) (merge : MergeState) → HasSent facts before held sent merge
+    → HasNoGap sent.index.greatest merge → HoldsUpTo facts before held HasNoGap
+pieces_fail facts before held sent merge has none = record {
+  blocks = has.blocks;
+  now = file_state sent.index merge;
+  begins = has.begins;
+  grows = has.grows;
+  stands = none;
 }
 
-pub gap_fails : (facts : FileFacts) (before held : Option (List ℕ)) (sent : SentState) (tick : ℕ) (left : List ChannelLeft) (head : Head) (end : FileEnd)
-    → HasSent facts before held sent (merge_state Merging tick left) → IsNextHead left head → IsFarAhead sent.index.greatest head → IsGapOrPieces end
-    → FileFails facts before held end
-gap_fails facts before held sent tick left head (Refused (Disorder at)) has judged far is = absurd is
-gap_fails facts before held sent tick left head (Refused (Gap at)) has judged far is = record {
+is_gap : (greatest tick place : ℕ) (left : List ChannelLeft) (next : Option NextPiece) → IsNextPiece left next
+    → IsSomeAnd next (λ piece. IsFarAhead greatest piece.head × (piece.place ≡ place)) → IsGap greatest (merge_state Merging tick left) place
+is_gap greatest tick place left None judged far = absurd far
+is_gap greatest tick place left (Some next) judged far = record {
+  at = judged.at;
+  of = judged.of;
+  is_next = judged.is_next;
+  far = subst (IsFarAhead greatest) judged.head_is far.0;
+  place_is = subst (StandsFirst judged.of.pieces) far.1 judged.place_is;
+}
+
+pub gap_refused : (facts : FileFacts) (before held : Option (List ℕ)) (sent : SentState) (tick place : ℕ) (left : List ChannelLeft) (next : Option NextPiece)
+    → HasSent facts before held sent (merge_state Merging tick left) → IsNextPiece left next
+    → IsSomeAnd next (λ piece. IsFarAhead sent.index.greatest piece.head × (piece.place ≡ place)) → IsRefused facts before held (Gap place)
+gap_refused facts before held sent tick place left next has judged far = record {
   blocks = has.blocks;
   now = file_state sent.index (merge_state Merging tick left);
   begins = has.begins;
   grows = has.grows;
-  stands = (refl, is_gap sent.index.greatest tick left head judged far);
+  stands = (refl, is_gap sent.index.greatest tick place left next judged far);
 }
-gap_fails facts before held sent tick left head (Refused Origin) has judged far is = absurd is
-gap_fails facts before held sent tick left head (Refused (Year at)) has judged far is = absurd is
-gap_fails facts before held sent tick left head (Pieces fault) has judged far is = whole_sent facts before held sent _ has
-gap_fails facts before held sent tick left head (Write fault) has judged far is = absurd is
 
 -- ---- what was answered
 

@@ -169,16 +169,16 @@ sealed_long count bytes is =
     omega (arith, size, few, length-held count bytes, is.some)
 
 -- the first frame's counter, behind the body's word
-counter_behind : (word : ℕ) (frames : List ReadFrameData) → All IsReadFrame frames → 0 < length frames
-    → head_of_piece (OfFrames frames) ≡ At (u48_at (to_le_bytes w32 word ++ flat_map copied_frame frames) 4)
+counter_behind : (place word : ℕ) (frames : List ReadFrameData) → All IsReadFrame frames → 0 < length frames
+    → head_of_piece (OfFrames place frames) ≡ At (u48_at (to_le_bytes w32 word ++ flat_map copied_frame frames) 4)
 unfolding copied_frame
-counter_behind word [] each some = absurd (omega (arith, some))
-counter_behind word (f ∷ fs) each some = ap At (sym (six_again f.counter (All-head IsReadFrame f fs each).counter))
+counter_behind place word [] each some = absurd (omega (arith, some))
+counter_behind place word (f ∷ fs) each some = ap At (sym (six_again f.counter (All-head IsReadFrame f fs each).counter))
 
-pub sealed_first : (count : ℕ) (bytes : List ℕ) (frames : List ReadFrameData) → IsFramesBody count bytes → copies_held count bytes ≡ frames
-    → head_of_piece (OfFrames frames) ≡ At (u48_at bytes 4)
-sealed_first count bytes frames is e =
+pub sealed_first : (place count : ℕ) (bytes : List ℕ) (frames : List ReadFrameData) → IsFramesBody count bytes → copies_held count bytes ≡ frames
+    → head_of_piece (OfFrames place frames) ≡ At (u48_at bytes 4)
+sealed_first place count bytes frames is e =
     let held = copies_held count bytes in
     let some : 0 < length held = omega (arith, length-held count bytes, is.some) in
-    subst (λ (fs : List ReadFrameData). head_of_piece (OfFrames fs) ≡ At (u48_at bytes 4)) e
-    (counter_behind count held is.holds.in_range some ∙ ap (λ l. At (u48_at l 4)) (sym is.holds.bytes_are))
+    subst (λ (fs : List ReadFrameData). head_of_piece (OfFrames place fs) ≡ At (u48_at bytes 4)) e
+    (counter_behind place count held is.holds.in_range some ∙ ap (λ l. At (u48_at l 4)) (sym is.holds.bytes_are))

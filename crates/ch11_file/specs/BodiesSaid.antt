@@ -1,5 +1,5 @@
 -- What a reader that takes the bodies of a file's packets apart finds in them.
-use Rattle.std.specs.Prelude.{ℕ, ◌≡◌, drop}
+use Rattle.std.specs.Prelude.{◌≡◌, drop}
 use Rattle.ch11_clock.specs.TimeRead.{SaysCivilTime}
 use Rattle.ch11_index.specs.IndexBodies.{HoldsNode, HoldsRoot}
 use Rattle.ch11_file.specs.FileBlocks.{BlockContent, block_body}

@@ -50,8 +50,8 @@ block_of channel sequence counter content =
 abbrev pub kind_of : BlockContent → BlockKind
 kind_of (SetupBlock text) = Setup
 kind_of (TimeBlock is_external time) = Time
-kind_of (PieceBlock channel (OfFrames frames)) = Frames
-kind_of (PieceBlock channel (OfRecord counter body)) = Record
+kind_of (PieceBlock channel (OfFrames place frames)) = Frames
+kind_of (PieceBlock channel (OfRecord place counter body)) = Record
 kind_of (NodeBlock entries) = Index
 kind_of (RootBlock nodes last) = Index
 
@@ -68,8 +68,8 @@ data_type Index = 3
 abbrev pub block_body : BlockContent → List ℕ
 block_body (SetupBlock text) = to_le_bytes w32 12 ++ text
 block_body (TimeBlock is_external time) = time_bytes is_external time
-block_body (PieceBlock channel (OfFrames frames)) = frames_body frames
-block_body (PieceBlock channel (OfRecord counter body)) = body
+block_body (PieceBlock channel (OfFrames place frames)) = frames_body frames
+block_body (PieceBlock channel (OfRecord place counter body)) = body
 block_body (NodeBlock entries) = node_bytes entries
 block_body (RootBlock nodes last) = root_bytes nodes last
 

@@ -4,7 +4,7 @@ use Rattle.std.specs.Io.KnownBytes.{Appends}
 use Rattle.ch11_clock.specs.declared.civil.CivilTime.{CivilTime}
 use Rattle.ch11_clock.specs.CivilTime.{IsTimeOf}
 use Rattle.ch11_clock.specs.TimePoints.{IsTimePoint}
-use Rattle.ch11_merge.specs.Merging.{FilePiece, ChannelLeft, head_of, IsNextAt, PieceIsNext}
+use Rattle.ch11_merge.specs.Merging.{FilePiece, ChannelLeft, StandsFirst, head_of, place_of, IsNextAt, PieceIsNext}
 use Rattle.ch11_file.specs.declared.counts.FileCounts.{FileCounts}
 use Rattle.ch11_file.specs.declared.end.Refusal.{Refusal}
 use Rattle.ch11_file.specs.declared.end.Refusal.TheVariants.{Disorder, Gap, Origin, Year}
@@ -48,20 +48,26 @@ pub record HoldsFile (facts : FileFacts) (before held : Option (List ℕ)) (coun
 abbrev pub HasNoDate : ℤ → Type 0
 HasNoDate moment = (time : CivilTime) → ¬ IsTimeOf time moment
 
--- the next piece lies over a second behind
-pub record IsDisorder (greatest : ℕ) (merge : MergeState) : Type 0 where
+-- the next piece, of the packet at this place, lies over a second behind
+pub record IsDisorder (greatest : ℕ) (merge : MergeState) (place : ℕ) : Type 0 where
   pub channel : ℕ
   pub piece : FilePiece
   pub left : List ChannelLeft
   pub is_next : PieceIsNext merge.tick merge.left channel piece left
   pub behind : IsBehind greatest (counter_of greatest piece)
+  pub place_is : place ≡ place_of piece
 
--- the next piece lies over a week ahead
-pub record IsGap (greatest : ℕ) (merge : MergeState) : Type 0 where
+-- the next piece, of the packet at this place, lies over a week ahead
+pub record IsGap (greatest : ℕ) (merge : MergeState) (place : ℕ) : Type 0 where
   pub at : ℕ
   pub of : ChannelLeft
   pub is_next : IsNextAt merge.left at of
   pub far : IsFarAhead greatest (head_of of.pieces)
+  pub place_is : StandsFirst of.pieces place
+
+-- no piece is refused so
+abbrev pub HasNoGap : (greatest : ℕ) → MergeState → Type 0
+HasNoGap greatest merge = merge.stage ≡ Merging → (place : ℕ) → ¬ IsGap greatest merge place
 
 -- the next time packet is due, and has no date
 pub record IsYear (facts : FileFacts) (greatest : ℕ) (merge : MergeState) : Type 0 where
@@ -79,10 +85,6 @@ pub record HoldsUpTo (facts : FileFacts) (before held : Option (List ℕ))
   pub grows : Appends before held (file_bytes blocks)
   pub stands : Stands now.index.greatest now.merge
 
--- packets that begin a file went out whole
-abbrev pub HoldsWhole : FileFacts → (before held : Option (List ℕ)) → Type 0
-HoldsWhole facts before held = HoldsUpTo facts before held (λ greatest merge. Unit {0})
-
 -- nothing went out, since the first time packet has no date
 pub record FirstHasNoDate (facts : FileFacts) (before held : Option (List ℕ)) : Type 0 where
   pub moment : ℤ
@@ -94,25 +96,16 @@ pub record FirstHasNoDate (facts : FileFacts) (before held : Option (List ℕ)) 
 -- a refusal is true
 abbrev pub IsRefused : FileFacts → (before held : Option (List ℕ)) → Refusal → Type 0
 IsRefused facts before held (Disorder at) =
-    HoldsUpTo facts before held (λ greatest merge. (merge.stage ≡ Merging) × IsDisorder greatest merge)
+    HoldsUpTo facts before held (λ greatest merge. (merge.stage ≡ Merging) × IsDisorder greatest merge at)
 IsRefused facts before held (Gap at) =
-    HoldsUpTo facts before held (λ greatest merge. (merge.stage ≡ Merging) × IsGap greatest merge)
+    HoldsUpTo facts before held (λ greatest merge. (merge.stage ≡ Merging) × IsGap greatest merge at)
 IsRefused facts before held Origin = HasNoTime facts.least facts.rules × Appends before held []
-IsRefused facts before held (Year at) =
-    (at ≡ 0) × (FirstHasNoDate facts before held ⊎ HoldsUpTo facts before held (IsYear facts))
+IsRefused facts before held Year =
+    FirstHasNoDate facts before held ⊎ HoldsUpTo facts before held (IsYear facts)
 
 -- why a file ended early: a refusal is true; else what went out begins a file, where a source failed
--- without a part of a packet
+-- without a part of a packet, and where no piece is refused as a gap
 abbrev pub FileFails : FileFacts → (before held : Option (List ℕ)) → FileEnd → Type 0
 FileFails facts before held (Refused refusal) = IsRefused facts before held refusal
-FileFails facts before held (Pieces fault) = HoldsWhole facts before held
+FileFails facts before held (Pieces fault) = HoldsUpTo facts before held HasNoGap
 FileFails facts before held (Write fault) = HoldsFront facts before held
-
--- a gap, or a source that gives no more pieces
-abbrev pub IsGapOrPieces : FileEnd → Type 0
-IsGapOrPieces (Refused (Disorder at)) = ⊥
-IsGapOrPieces (Refused (Gap at)) = Unit {0}
-IsGapOrPieces (Refused Origin) = ⊥
-IsGapOrPieces (Refused (Year at)) = ⊥
-IsGapOrPieces (Pieces fault) = Unit {0}
-IsGapOrPieces (Write fault) = ⊥

@@ -94,9 +94,9 @@ LieBehindFurtherTimes channel (OfPiece other piece ∷ out) = ⊥
 
 -- the frames of a piece lie near this tick
 abbrev pub FramesLieNear : List Origin → (tick : ℕ) → FilePiece → Type 0
-FramesLieNear rules tick (OfFrames frames) =
+FramesLieNear rules tick (OfFrames place frames) =
     AllByRecursion (λ (frame : ReadFrameData). IsNear rules tick frame.counter) frames
-FramesLieNear rules tick (OfRecord counter body) = Unit {0}
+FramesLieNear rules tick (OfRecord place counter body) = Unit {0}
 
 abbrev pub ContentLiesNear : List Origin → (tick : ℕ) → BlockContent → Type 0
 ContentLiesNear rules tick (SetupBlock text) = Unit {0}

@@ -52,6 +52,7 @@ setup_at file time = record {
   time = time;
   time_channel = file.time_channel;
   is_external = file.is_external;
+  is_indexed = file.is_indexed;
   channels = file.channels;
   attributes = file.attributes;
 }
@@ -64,8 +65,8 @@ setup_text file time = attributes_text (setup_attributes (setup_at file time))
 abbrev pub block_channel : FileSetup → BlockContent → ℕ
 block_channel setup (SetupBlock text) = 0
 block_channel setup (TimeBlock is_external time) = setup.time_channel
-block_channel setup (PieceBlock channel (OfFrames frames)) = channel
-block_channel setup (PieceBlock channel (OfRecord counter body)) = 0
+block_channel setup (PieceBlock channel (OfFrames place frames)) = channel
+block_channel setup (PieceBlock channel (OfRecord place counter body)) = 0
 block_channel setup (NodeBlock entries) = 0
 block_channel setup (RootBlock nodes last) = 0
 

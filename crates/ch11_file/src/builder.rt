@@ -51,7 +51,7 @@ impl PieceBuilder {
     ghost use Rattle.std.specs.Prelude.{◌≡◌, ◌≢◌, [], ◌∷◌, ◌++◌, IfOk, OnOk, OnErr};
     ghost use Rattle.ch11_merge.specs.Short.{FitPacket};
     ghost use Rattle.ch11_merge.specs.Merging.FilePiece.{OfFrames};
-    ghost use Rattle.ch11_file.specs.OwnedPieces.{owned_data, place_of};
+    ghost use Rattle.ch11_file.specs.OwnedPieces.{owned_data};
 
     /// A piece of no frames, with room for a body of this many bytes.
     pub fn new(alloc: Global, capacity: usize) -> Result<PieceBuilder, AllocError>
@@ -77,8 +77,7 @@ impl PieceBuilder {
     /// The piece of the frames that were added, at least one, of the packet at this place in the recording.
     pub fn seal(self, place: u64) -> OwnedPiece
         requires { self ≢ [] }
-        ensures frames { owned_data result ≡ OfFrames self }
-        ensures place { place_of result ≡ place }
+        ensures { owned_data result ≡ OfFrames place self }
     {
         let PieceBuilder { count, mut bytes } = self;
         let [low, high] = count.to_le_bytes();

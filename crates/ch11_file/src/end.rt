@@ -2,36 +2,28 @@
 
 use ch11_merge::PieceFault;
 use std::alloc::AllocError;
-use thiserror::Error;
 
 /// Why a recording can't be a whole file. `at` is the place of the piece's packet in the recording.
-#[derive(Clone, Copy, Debug, PartialEq, Eq, Error)]
+#[derive(Clone, Copy, Debug, PartialEq, Eq)]
 pub enum Refusal {
     /// The counter of a piece lies over a second behind that of a header that went out.
-    #[error("2 Disorder {at}")]
     Disorder { at: u64 },
     /// It lies over a week ahead of all of them.
-    #[error("3 Gap {at}")]
     Gap { at: u64 },
     /// No time packet has a tick.
-    #[error("4 Origin 0")]
     Origin,
-    /// The next time packet is outside of the years 1 to 3999. `at` is 0.
-    #[error("5 Year {at}")]
-    Year { at: u64 },
+    /// The next time packet is outside of the years 1 to 3999.
+    Year,
 }
 
 /// Why not all of a file went out. Nothing follows a fault.
-#[derive(Clone, Copy, Debug, PartialEq, Eq, Error)]
+#[derive(Clone, Copy, Debug, PartialEq, Eq)]
 pub enum FileFault {
     /// Out of memory.
-    #[error("memory")]
     Memory,
     /// The output failed, or a write took no byte.
-    #[error("Output")]
     Output,
     /// The file would have 2^64 bytes, or the packet of its setup record more than 134,217,728.
-    #[error("Long")]
     Long,
 }
 
@@ -47,16 +39,13 @@ impl From<AllocError> for FileFault {
 }
 
 /// Why a file ended early.
-#[derive(Clone, Copy, Debug, PartialEq, Eq, Error)]
+#[derive(Clone, Copy, Debug, PartialEq, Eq)]
 pub enum FileEnd {
     /// The recording can't be a whole file.
-    #[error("{0}")]
     Refused(Refusal),
     /// A source gives no more pieces.
-    #[error("{0}")]
     Pieces(PieceFault),
     /// Not all of it went out.
-    #[error("{0}")]
     Write(FileFault),
 }
 

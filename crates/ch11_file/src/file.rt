@@ -55,7 +55,7 @@ pub fn write_file<S: PieceSource<Piece = OwnedPiece>, W: Write>(
         return Err(FileEnd::Refused(Refusal::Origin));
     };
     let Some(time) = civil_time(first.moment) else {
-        return Err(FileEnd::Refused(Refusal::Year { at: 0 }));
+        return Err(FileEnd::Refused(Refusal::Year));
     };
     let mut sent = match Sent::new(alloc, most) {
         Ok(sent) => sent,

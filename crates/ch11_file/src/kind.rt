@@ -20,7 +20,7 @@ const TIME_DATA: u8 = 0x11;
 
 /// What a packet of a file is.
 #[derive(Clone, Copy, Debug, PartialEq, Eq)]
-pub(crate) enum BlockKind {
+pub enum BlockKind {
     /// The setup record.
     Setup,
     /// A time packet.
@@ -53,11 +53,11 @@ impl BlockKind {
 
 /// What a packet's header says, but for its lengths and its sequence number.
 #[derive(Clone, Copy, Debug, PartialEq, Eq)]
-pub(crate) struct BlockHead {
-    pub(crate) kind: BlockKind,
-    pub(crate) channel: u16,
+pub struct BlockHead {
+    pub kind: BlockKind,
+    pub channel: u16,
     /// The relative time counter, below 2^48.
-    pub(crate) counter: u64,
+    pub counter: u64,
 }
 
 impl BlockHead {

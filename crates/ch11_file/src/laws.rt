@@ -1,21 +1,24 @@
 //! Laws of a whole file, with nothing to run.
 
-ghost use Rattle.std.specs.Prelude.{ℕ, ◌≡◌, ◌≢◌, ◌<◌, ◌≤◌, ◌^◌, true, List, [], ◌∷◌, ◌++◌, None, Some, length, map, slice_get, All};
+ghost use Rattle.std.specs.Prelude.{ℕ, ◌≡◌, ◌≢◌, ◌<◌, ◌≤◌, ◌^◌, true, List, [], ◌∷◌, ◌++◌, Option, None, Some, length, map, slice_get, All};
 ghost use Rattle.std.specs.List.{AllByRecursion, flat_map};
+ghost use Rattle.ch11_packet.specs.declared.header.TheConstants.{COMPUTER_GENERATED_DATA, ETHERNET_DATA};
 ghost use Rattle.ch11_packet.specs.Frames.{data_len};
 ghost use Rattle.ch11_packet.specs.FramesRead.{ReadFrameData, IsReadFrame, SpellsBody};
 ghost use Rattle.ch11_merge.specs.declared.piece.PieceSoFar.{PieceSoFar};
 ghost use Rattle.ch11_merge.specs.Pieces.{goes_on, with_frames};
 ghost use Rattle.ch11_merge.specs.Short.{FitPacket};
 ghost use Rattle.ch11_merge.specs.Merging.{ChannelLeft};
+ghost use Rattle.ch11_merge.specs.Merging.FilePiece.{OfFrames, OfRecord};
 ghost use Rattle.ch11_merge.specs.Kept.{AreNamedApart, IsSteady, TimesStandAhead, held_in, held_of};
 ghost use Rattle.ch11_index.specs.FileIndex.{IsIndexed, empty_index};
 ghost use Rattle.ch11_index.specs.IndexRead.{AreChained, AreWithin, EndsWithRoot};
 ghost use Rattle.ch11_index.specs.IndexRead.{named_in, nodes_from, packets_from, rooted_in};
-ghost use Rattle.ch11_file.specs.CopiedFrames.{frames_body};
-ghost use Rattle.ch11_file.specs.declared.kind.BlockKind.TheVariants.{Setup};
+ghost use Rattle.ch11_file.specs.declared.kind.BlockKind.TheVariants.{Frames, Record, Setup};
 ghost use Rattle.ch11_file.specs.BodiesSaid.{SaysContent};
-ghost use Rattle.ch11_file.specs.FileBlocks.{FileBlock, block_len, block_packet, file_bytes, item_of, kind_of, merged_in};
+ghost use Rattle.ch11_file.specs.FileBlocks.{FileBlock, block_body, block_len, block_packet, data_type, file_bytes, item_of};
+ghost use Rattle.ch11_file.specs.FileBlocks.{kind_of, merged_in};
+ghost use Rattle.ch11_file.specs.FileBlocks.BlockContent.{PieceBlock};
 ghost use Rattle.ch11_file.specs.WholeFile.{FileFacts, IsWholeFile, setup_at, setup_text};
 ghost use Rattle.ch11_file.specs.FilesRead.{BeginAtZero, BeginsWithSetup, IsValidPacket, NeverFarBehind, RiseByOne};
 ghost use Rattle.ch11_file.specs.FilesRead.{LieBehindFurtherTimes, LieNearTheirTimes, TellsClock};
@@ -32,10 +35,15 @@ use ch11_clock::{counters_lie_near_a_time_point, time_points_have_the_clocks_tim
 use ch11_index::an_index_names_all;
 use ch11_setup::{a_setup_record_is_read_back, a_setup_record_names_the_channels};
 
-/// Law: a body of frames that are copied is read as these frames.
-pub fn copied_frames_are_read_back()
-    ensures { (frames : List ReadFrameData) → All IsReadFrame frames → length frames < 2 ^ 16
-        → SpellsBody frames (frames_body frames) }
+/// Law: a reader takes the packet of a piece for what it is. Frames have the data type of Ethernet data, and their
+/// body is read as these frames; a record has that of computer-generated data, and its body is its data.
+pub fn packets_of_pieces_are_read_back()
+    ensures frames { (channel place : ℕ) (frames : List ReadFrameData) → All IsReadFrame frames
+        → length frames < 2 ^ 16
+        → SpellsBody frames (block_body (PieceBlock channel (OfFrames place frames))) }
+    ensures record { (channel place : ℕ) (counter : Option ℕ) (body : List ℕ)
+        → block_body (PieceBlock channel (OfRecord place counter body)) ≡ body }
+    ensures types { (data_type Frames ≡ ETHERNET_DATA) × (data_type Record ≡ COMPUTER_GENERATED_DATA) }
 {}
 
 /// Law: a single frame fits its packet, and so does a further one that goes on with a piece, behind the

@@ -8,7 +8,7 @@ const CHANNEL_IDS: usize = 1 << 16;
 
 /// The sequence number of each channel's next packet.
 #[derive(Debug, Drop)]
-pub(crate) struct SequenceNumbers {
+pub struct SequenceNumbers {
     next: Vec<u8>,
 }
 
@@ -26,7 +26,7 @@ impl SequenceNumbers {
     ghost use Rattle.std.specs.Prelude.{ℕ, ◌≡◌, ◌+◌, ◌%◌, ◌<◌, ◌^◌, IfOk, length, slice_index, slice_set};
 
     /// Numbers that begin at 0. It takes room for each channel ID.
-    pub(crate) fn new(alloc: Global) -> Result<SequenceNumbers, AllocError>
+    pub fn new(alloc: Global) -> Result<SequenceNumbers, AllocError>
         ensures len { IfOk result (λ numbers. length numbers ≡ 2 ^ 16) }
         ensures each { IfOk result (λ numbers. (channel : ℕ) → channel < 2 ^ 16
             → slice_index numbers channel ≡ 0) }
@@ -37,7 +37,7 @@ impl SequenceNumbers {
     }
 
     /// The number of a channel's next packet, behind which the next one counts on.
-    pub(crate) fn take(&mut self, channel: u16) -> u8
+    pub fn take(&mut self, channel: u16) -> u8
         ensures number { result ≡ slice_index self.old channel }
         ensures next { self.new ≡ slice_set self.old channel ((result + 1) % 256) }
     {

@@ -33,7 +33,7 @@ impl Model for FramesBody {
 }
 
 impl FramesBody {
-    ghost use Rattle.std.specs.Prelude.{◌≡◌, ◌<◌, ◌≤◌, ◌^◌, length};
+    ghost use Rattle.std.specs.Prelude.{ℕ, ◌≡◌, ◌<◌, ◌≤◌, ◌^◌, length};
     ghost use Rattle.ch11_packet.specs.declared.header.TheConstants.{MAX_ETHERNET_PACKET_LEN};
     ghost use Rattle.ch11_packet.specs.PacketLen.{written_len};
     ghost use Rattle.ch11_packet.specs.Profiles.Profile.{WithSum};
@@ -61,7 +61,7 @@ impl FramesBody {
 
     /// The counter of the first frame.
     pub fn counter(&self) -> u64
-        ensures first { head_of_piece (OfFrames self.now) ≡ At result }
+        ensures first { (place : ℕ) → head_of_piece (OfFrames place self.now) ≡ At result }
         ensures fits { result < 2 ^ 48 }
     {
         let [_, _, _, _, c0, c1, c2, c3, c4, c5, ..] = self.bytes.as_slice() else {
@@ -119,11 +119,12 @@ impl RecordBody {
 
 impl OwnedPiece {
     ghost use Rattle.std.specs.Prelude.{◌≡◌};
-    ghost use Rattle.ch11_file.specs.OwnedPieces.{place_of};
+    ghost use Rattle.ch11_merge.specs.Merging.{place_of};
+    ghost use Rattle.ch11_file.specs.OwnedPieces.{owned_data};
 
     /// The place of its packet in the recording that it comes from.
     pub fn place(&self) -> u64
-        ensures { result ≡ place_of self.now }
+        ensures { result ≡ place_of (owned_data self.now) }
     {
         match self {
             OwnedPiece::Frames { place, .. } | OwnedPiece::Record { place, .. } => *place,

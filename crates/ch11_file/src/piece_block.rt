@@ -55,7 +55,7 @@ pub(crate) fn put_piece<W: Write>(
 }
 
 /// What the header of a piece's packet says. A piece without a counter has the greatest that went out.
-fn piece_head(channel: u16, piece: &OwnedPiece, greatest: u64) -> BlockHead
+pub fn piece_head(channel: u16, piece: &OwnedPiece, greatest: u64) -> BlockHead
     requires { greatest < 2 ^ 48 }
     ensures kind { result.kind ≡ kind_of (PieceBlock channel (owned_data piece.now)) }
     ensures channel { (setup : FileSetup)
@@ -78,7 +78,7 @@ fn piece_head(channel: u16, piece: &OwnedPiece, greatest: u64) -> BlockHead
 }
 
 /// The body of a piece's packet.
-fn piece_body(piece: &OwnedPiece) -> &[u8]
+pub fn piece_body(piece: &OwnedPiece) -> &[u8]
     ensures body { (channel : ℕ) → result.now ≡ block_body (PieceBlock channel (owned_data piece.now)) }
     ensures fits { written_len WithSum (length result.now) < 2 ^ 32 }
     ensures frames { (channel : ℕ) → kind_of (PieceBlock channel (owned_data piece.now)) ≡ Frames

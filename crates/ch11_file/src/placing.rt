@@ -1,11 +1,11 @@
 //! All packets of a file behind the first time packet, in order.
 
-ghost use Rattle.std.specs.Prelude.{ℕ, ◌≡◌, ◌<◌, ◌^◌, ◌↔◌, true, false, List, Option, IfOk, IfSome, IsTrue, MatchResult};
+ghost use Rattle.std.specs.Prelude.{ℕ, ◌≡◌, ◌<◌, ◌^◌, ◌↔◌, true, false, List, Option, IfOk, IfSome, IfNone, IsSomeAnd, IsTrue, MatchResult};
 ghost use Rattle.ch11_merge.specs.declared.source.Head.{Head};
 ghost use Rattle.ch11_file.specs.declared.owned.OwnedPiece.{OwnedPiece};
 ghost use Rattle.ch11_file.specs.OwnedPieces.{owned_data};
 ghost use Rattle.ch11_file.specs.WholeFile.{FileFacts, IsFarAhead};
-ghost use Rattle.ch11_file.specs.FileEnds.{FileFails, IsGapOrPieces};
+ghost use Rattle.ch11_file.specs.FileEnds.{FileFails};
 ghost use Rattle.ch11_file.specs.Sending.{HasPlaced, HasMerged};
 
 use crate::end::{FileEnd, Refusal};
@@ -16,7 +16,7 @@ use crate::sent::Sent;
 use crate::setup::FileSetup;
 use crate::time_block::put_time;
 use crate::times::FileTimes;
-use ch11_merge::{Head, MergedChannels, PieceFault, PieceSource, Placed, next_head, next_placed};
+use ch11_merge::{Head, MergedChannels, NextPiece, PieceSource, Placed, next_piece, next_placed};
 use std::alloc::Global;
 use std::io::Write;
 
@@ -68,8 +68,8 @@ fn place_next<S: PieceSource<Piece = OwnedPiece>, W: Write>(
         → (sent.old.index.place < sent.new.index.place) × (sent.new.index.place < 2 ^ 64)) }
     ensures fits { IfOk result (λ _. IfSome times.new.next (λ point. point.tick < 2 ^ 48)) }
 {
-    if is_far_ahead(sent.greatest(), next_head(channels)) {
-        return Err(gap_of(channels));
+    if let Some(at) = gap_of(sent.greatest(), next_piece(channels)) {
+        return Err(FileEnd::Refused(Refusal::Gap { at }));
     }
     match next_placed(channels, times.tick()) {
         Ok(Some(Placed::Time { .. })) => {
@@ -85,6 +85,20 @@ fn place_next<S: PieceSource<Piece = OwnedPiece>, W: Write>(
     }
 }
 
+/// Where the packet of the next piece stands, if that lies over a week ahead of the greatest counter that went
+/// out.
+fn gap_of(greatest: u64, next: Option<NextPiece>) -> Option<u64>
+    requires { greatest < 2 ^ 48 }
+    ensures some { IfSome result (λ place. IsSomeAnd next (λ piece.
+        IsFarAhead greatest piece.head × (piece.place ≡ place))) }
+    ensures none { IfNone result (IfSome next (λ piece. ¬ IsFarAhead greatest piece.head)) }
+{
+    match next {
+        Some(piece) if is_far_ahead(greatest, piece.head) => Some(piece.place),
+        _ => None,
+    }
+}
+
 /// Whether a piece lies over a week ahead of the greatest counter that went out.
 fn is_far_ahead(greatest: u64, head: Head) -> bool
     requires { greatest < 2 ^ 48 }
@@ -93,18 +107,5 @@ fn is_far_ahead(greatest: u64, head: Head) -> bool
     match head {
         Head::At(counter) => greatest + MAX_TICKS_AHEAD < counter,
         Head::Uncounted | Head::End => false,
-    }
-}
-
-/// The refusal of the next piece, which lies too far ahead: it is taken to find the place of its packet.
-fn gap_of<S: PieceSource<Piece = OwnedPiece>>(channels: &mut MergedChannels<S>) -> FileEnd
-    ensures { IsGapOrPieces result }
-{
-    match next_placed(channels, u64::MAX) {
-        Ok(Some(Placed::Piece { piece, .. })) => FileEnd::Refused(Refusal::Gap {
-            at: piece.place(),
-        }),
-        Ok(_) => FileEnd::Pieces(PieceFault::Device),
-        Err(fault) => FileEnd::Pieces(fault),
     }
 }

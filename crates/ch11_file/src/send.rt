@@ -17,7 +17,7 @@ use ch11_packet::{Header, body_sum, write_packet, written_len};
 use std::io::Write;
 
 /// The header of a packet with this body.
-pub(crate) fn header_of(head: BlockHead, sequence: u8, body: &[u8]) -> Header
+pub fn header_of(head: BlockHead, sequence: u8, body: &[u8]) -> Header
     requires counter { head.counter < 2 ^ 48 }
     requires fits { written_len WithSum (length body.now) < 2 ^ 32 }
     requires frames { head.kind ≡ Frames
@@ -43,7 +43,7 @@ pub(crate) fn header_of(head: BlockHead, sequence: u8, body: &[u8]) -> Header
 }
 
 /// Writes a packet with this header and this body. At `Err` a part of it went out.
-pub(crate) fn send<W: Write>(out: &mut W, header: &Header, body: &[u8]) -> Result<(), FileFault>
+pub fn send_packet<W: Write>(out: &mut W, header: &Header, body: &[u8]) -> Result<(), FileFault>
     requires { written_len WithSum (length body.now) < 2 ^ 32 }
     ensures whole { OnOk result (Appends (W.contents out.old) (W.contents out.new)
         (packet_bytes WithSum (header_data header.now) body.now)) }

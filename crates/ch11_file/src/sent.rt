@@ -6,7 +6,7 @@ use crate::counts::FileCounts;
 use crate::end::FileFault;
 use crate::kind::{BlockHead, BlockKind};
 use crate::numbers::SequenceNumbers;
-use crate::send::{header_of, send};
+use crate::send::{header_of, send_packet};
 use ch11_index::{FilePacket, Index, IndexPacket};
 use ch11_packet::written_len;
 use std::alloc::{AllocError, Global};
@@ -245,7 +245,7 @@ impl Sent {
         if !self.index.has_room(len) {
             return Err(FileFault::Long);
         }
-        send(out, &header, body)?;
+        send_packet(out, &header, body)?;
         Ok(len)
     }
 

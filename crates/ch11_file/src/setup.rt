@@ -4,13 +4,14 @@ use ch11_clock::CivilTime;
 use ch11_setup::{Attribute, Setup, SetupChannel};
 
 /// What the setup record of a file says, but for its time, which is that of the first time packet: of which
-/// host and program, whether an outside source held the clock, on which channel the time packets stand, the
-/// Ethernet channels in ascending order, and what a user adds.
+/// host and program, whether an outside source held the clock, whether an index follows, on which channel the
+/// time packets stand, the Ethernet channels in ascending order, and what a user adds.
 #[derive(Clone, Copy, Debug)]
 pub struct FileSetup<'a> {
     pub host: &'a str,
     pub program: &'a str,
     pub is_external: bool,
+    pub is_indexed: bool,
     pub time_channel: u16,
     pub channels: &'a [SetupChannel<'a>],
     pub attributes: &'a [Attribute<'a>],
@@ -30,6 +31,7 @@ impl<'a> FileSetup<'a> {
             time,
             time_channel: self.time_channel,
             is_external: self.is_external,
+            is_indexed: self.is_indexed,
             channels: self.channels,
             attributes: self.attributes,
         }

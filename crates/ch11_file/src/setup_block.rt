@@ -50,8 +50,12 @@ pub(crate) fn put_setup<W: Write>(
     sent.put(alloc, out, head, &body)
 }
 
-/// The body of the setup record.
-fn setup_body(alloc: Global, setup: &FileSetup<'_>, time: CivilTime) -> Result<Vec<u8>, FileFault>
+/// The body of the setup record of a file whose first time packet says this time.
+pub fn setup_body(
+    alloc: Global,
+    setup: &FileSetup<'_>,
+    time: CivilTime,
+) -> Result<Vec<u8>, FileFault>
     requires time { IsCivilTime time }
     requires number { length setup.now.channels.now < 2 ^ 16 }
     ensures body { IfOk result (λ body. body.items

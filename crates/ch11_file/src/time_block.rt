@@ -46,7 +46,7 @@ pub(crate) fn put_time<W: Write>(
         return Err(FileEnd::Pieces(PieceFault::Device));
     };
     let Some(body) = time_body(point.moment, setup.is_external) else {
-        return Err(FileEnd::Refused(Refusal::Year { at: 0 }));
+        return Err(FileEnd::Refused(Refusal::Year));
     };
     let head = BlockHead {
         kind: BlockKind::Time,

@@ -12,14 +12,14 @@ const NO_TICK: u64 = 1 << 48;
 
 /// The time packets that are still to come, and the next of them.
 #[derive(Debug, Drop)]
-pub(crate) struct FileTimes<'c> {
-    points: TimePoints<'c>,
-    next: Option<TimePoint>,
+pub struct FileTimes<'c> {
+    pub points: TimePoints<'c>,
+    pub next: Option<TimePoint>,
 }
 
 impl<'c> FileTimes<'c> {
     /// The time packets of a recording with this least counter.
-    pub(crate) fn new(clock: &'c Clock, least: u64) -> FileTimes<'c>
+    pub fn new(clock: &'c Clock, least: u64) -> FileTimes<'c>
         requires { least < 2 ^ 48 }
         ensures none { result.next ≡ None → HasNoTime least clock.now }
         ensures first { IfSome result.next (λ point.
@@ -33,14 +33,14 @@ impl<'c> FileTimes<'c> {
     }
 
     /// The next time packet.
-    pub(crate) fn next(&self) -> Option<TimePoint>
+    pub fn next(&self) -> Option<TimePoint>
         ensures { result ≡ self.now.next }
     {
         self.next
     }
 
     /// The tick of the next time packet: where there is none, one that no counter reaches.
-    pub(crate) fn tick(&self) -> u64
+    pub fn tick(&self) -> u64
         ensures { result ≡ tick_of self.now.next }
     {
         match self.next {
@@ -50,7 +50,7 @@ impl<'c> FileTimes<'c> {
     }
 
     /// The next time packet went out.
-    pub(crate) fn advance(&mut self)
+    pub fn advance(&mut self)
         requires fits { IfSome self.old.next (λ point. point.tick < 2 ^ 48) }
         ensures follows { (least : ℕ) (rules : List Origin) (point : TimePoint)
             → self.old.next ≡ Some point → WalksTimes least rules self.old.next self.old.points

@@ -1,7 +1,7 @@
 -- What is answered, of sources that say their pieces.
-use Rattle.std.proofs.Common.{ℕ, ◌≡◌, ◌≢◌, List, [], ◌∷◌, map, refl, sym, ◌∙◌, ap, subst, All, Some, None, Option}
+use Rattle.std.proofs.Common.{ℕ, ◌≡◌, ◌≢◌, ◌<◌, List, [], ◌∷◌, length, get_or, map, refl, sym, ◌∙◌, ap, subst, All, Some, None, Option}
 use Rattle.std.specs.Prelude.{true, false, slice_get, slice_set, IfSome, IsSomeAnd}
-use Rattle.std.proofs.lemmas.Option.{same_Some, none-some}
+use Rattle.std.proofs.lemmas.Option.{same_Some, none-some, slice_get-get_or}
 use Rattle.ch11_merge.specs.declared.source.Head.{Head}
 use Rattle.ch11_merge.specs.declared.source.Head.TheVariants.{End}
 use Rattle.ch11_merge.specs.declared.channels.MergedChannel.{MergedChannel}
@@ -10,11 +10,17 @@ use Rattle.ch11_merge.specs.Placing.{Said, said_by, said_of, SayLeft, IsLeastIn}
 use Rattle.ch11_merge.proofs.Merged.{has_head}
 use Rattle.ch11_merge.proofs.Places.{all_there, all_from_there, other_there, map_set}
 
+-- what an index of a list of channels gives stands there
+pub stands_there : {X : Type 0} (items slice : List X) (at : ℕ) (first : X) → slice ≡ items → at < length slice → first ≡ get_or items at first
+    → slice_get items at ≡ Some first
+stands_there items slice at first same within is =
+    slice_get-get_or items at first (subst (λ (xs : List _). at < length xs) same within) ∙ ap Some (sym is)
+
 -- a source stands at the first piece that it says
 abbrev pub StandFirst : {S : Type 0} → (S → Option (List FilePiece)) → (S → Head) → Type 0
 StandFirst {S} left stands = (s : S) → IfSome (left s) (λ pieces. stands s ≡ head_of pieces)
 
-some_at : {X : Type 0} (o : Option X) (P : X → Type 0) (x : X) → o ≡ Some x → IfSome o P → P x
+pub some_at : {X : Type 0} (o : Option X) (P : X → Type 0) (x : X) → o ≡ Some x → IfSome o P → P x
 some_at None P x is h = absurd (none-some x is)
 some_at (Some y) P x is h = subst P (same_Some y x is) h
 

@@ -1,5 +1,5 @@
 -- Frames are cut into pieces, in one way.
-use Rattle.std.proofs.Common.{◌≡◌, inl, inr, List, [], ◌∷◌, ◌++◌, map, refl, sym, ◌∙◌, ap, subst}
+use Rattle.std.proofs.Common.{ℕ, ◌≡◌, inl, inr, List, [], ◌∷◌, ◌++◌, map, refl, sym, ◌∙◌, ap, subst}
 use Rattle.std.specs.Prelude.{false}
 use Rattle.std.specs.List.{AllByRecursion}
 use Rattle.std.proofs.lemmas.Bool.{cases_Bool, both_ways}
@@ -85,34 +85,34 @@ record IsBehind (piece : PieceSoFar) (all front : List ReadFrameData) (pieces : 
   pub cut : Follows (with_frames piece front) pieces
   pub apart : AreApart pieces
 
-is_behind : (piece : PieceSoFar) (frames : List ReadFrameData)
-    → IsBehind piece frames (cut_behind piece frames).0 (map frames_of_piece (cut_behind piece frames).1)
-is_behind piece [] = record { whole = refl; goes = tt; each = tt; cut = tt; apart = tt }
-is_behind piece (f ∷ fs) = elim (cases_Bool (goes_on piece f))
-    as (λ _. IsBehind piece (f ∷ fs) (cut_behind piece (f ∷ fs)).0 (map frames_of_piece (cut_behind piece (f ∷ fs)).1)) [
+is_behind : (place : ℕ) (piece : PieceSoFar) (frames : List ReadFrameData)
+    → IsBehind piece frames (cut_behind place piece frames).0 (map frames_of_piece (cut_behind place piece frames).1)
+is_behind place piece [] = record { whole = refl; goes = tt; each = tt; cut = tt; apart = tt }
+is_behind place piece (f ∷ fs) = elim (cases_Bool (goes_on piece f))
+    as (λ _. IsBehind piece (f ∷ fs) (cut_behind place piece (f ∷ fs)).0 (map frames_of_piece (cut_behind place piece (f ∷ fs)).1)) [
       | inl on ↦
-          let b = is_behind (with_frame piece f) fs in
+          let b = is_behind place (with_frame piece f) fs in
           rw on (record { whole = ap (λ (xs : List ReadFrameData). f ∷ xs) b.whole; goes = (on, b.goes); each = b.each; cut = b.cut; apart = b.apart })
       | inr off ↦
-          let b = is_behind (begun f) fs in
+          let b = is_behind place (begun f) fs in
           rw off (record {
             whole = ap (λ (xs : List ReadFrameData). f ∷ xs) b.whole;
             goes = tt;
             each = (b.goes, b.each);
             cut = off;
-            apart = apart_with f (cut_behind (begun f) fs).0 (map frames_of_piece (cut_behind (begun f) fs).1) b.cut b.apart;
+            apart = apart_with f (cut_behind place (begun f) fs).0 (map frames_of_piece (cut_behind place (begun f) fs).1) b.cut b.apart;
           })
     ]
 
-pub pieces_cut : (frames : List ReadFrameData) → AreCut frames (map frames_of_piece (frames_pieces frames))
-pieces_cut [] = record { whole = refl; each = tt; apart = tt }
-pieces_cut (f ∷ fs) =
-    let b = is_behind (begun f) fs in
+pub pieces_cut : (place : ℕ) (frames : List ReadFrameData) → AreCut frames (map frames_of_piece (frames_pieces place frames))
+pieces_cut place [] = record { whole = refl; each = tt; apart = tt }
+pieces_cut place (f ∷ fs) =
+    let b = is_behind place (begun f) fs in
     record {
       whole = ap (λ (xs : List ReadFrameData). f ∷ xs) b.whole;
       each = (b.goes, b.each);
-      apart = apart_with f (cut_behind (begun f) fs).0 (map frames_of_piece (cut_behind (begun f) fs).1) b.cut b.apart;
+      apart = apart_with f (cut_behind place (begun f) fs).0 (map frames_of_piece (cut_behind place (begun f) fs).1) b.cut b.apart;
     }
 
 pub have_pieces : (frames : List ReadFrameData) → (pieces : List (List ReadFrameData)) × AreCut frames pieces
-have_pieces frames = (map frames_of_piece (frames_pieces frames), pieces_cut frames)
+have_pieces frames = (map frames_of_piece (frames_pieces 0 frames), pieces_cut 0 frames)

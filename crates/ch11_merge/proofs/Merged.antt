@@ -15,7 +15,7 @@ use Rattle.ch11_merge.specs.Merging.{frames_before, frames_from, piece_of, part_
 use Rattle.ch11_merge.specs.Merging.{TimeIsNext, PieceIsNext, NothingLeft, Merges}
 use Rattle.ch11_merge.specs.Merging.FilePiece.{OfFrames, OfRecord}
 use Rattle.ch11_merge.specs.Merging.Merged.{OfTime, OfPiece}
-use Rattle.ch11_merge.specs.Kept.{Held, held_in, held_of, AreNamedApart, times_in, FollowEachOther}
+use Rattle.ch11_merge.specs.Kept.{Held, held_in, held_of, AreNamedApart}
 use Rattle.ch11_merge.specs.Kept.Held.{HeldFrame}
 use Rattle.ch11_merge.proofs.Places.{all_there, set_there, set_elsewhere, set_cases}
 
@@ -28,15 +28,15 @@ frames_split tick (f ∷ fs) = elim (cases_Bool (nat_lt f.counter tick)) as (λ 
   | inr off ↦ rw off refl
 ]
 
-piece_held : (frames : List ReadFrameData) → flat_map held_in (piece_of frames) ≡ map HeldFrame frames
-piece_held [] = refl
-piece_held (f ∷ fs) = rw append-nil refl
+piece_held : (place : ℕ) (frames : List ReadFrameData) → flat_map held_in (piece_of place frames) ≡ map HeldFrame frames
+piece_held place [] = refl
+piece_held place (f ∷ fs) = rw append-nil refl
 
 part_held : (tick : ℕ) (piece : FilePiece) → held_in (part_before tick piece) ++ flat_map held_in (part_from tick piece) ≡ held_in piece
-part_held tick (OfFrames fs) =
-    ap (λ (hs : List Held). map HeldFrame (frames_before tick fs) ++ hs) (piece_held (frames_from tick fs))
+part_held tick (OfFrames place fs) =
+    ap (λ (hs : List Held). map HeldFrame (frames_before tick fs) ++ hs) (piece_held place (frames_from tick fs))
     ∙ sym (map-append HeldFrame (frames_before tick fs) (frames_from tick fs)) ∙ ap (map HeldFrame) (frames_split tick fs)
-part_held tick (OfRecord counter body) = refl
+part_held tick (OfRecord place counter body) = refl
 
 pub takes_held : (tick : ℕ) (old : List FilePiece) (taken : FilePiece) (new : List FilePiece) → TakesPart tick old taken new
     → held_in taken ++ flat_map held_in new ≡ flat_map held_in old
@@ -114,10 +114,10 @@ one_tie End b m n some p q = absurd (some refl)
 
 pub has_head : (pieces : List FilePiece) → pieces ≢ [] → head_of pieces ≢ End
 has_head [] some = absurd (some refl)
-has_head (OfFrames [] ∷ ps) some = λ e. cc
-has_head (OfFrames (f ∷ fs) ∷ ps) some = λ e. cc
-has_head (OfRecord (Some n) body ∷ ps) some = λ e. cc
-has_head (OfRecord None body ∷ ps) some = λ e. cc
+has_head (OfFrames place [] ∷ ps) some = λ e. cc
+has_head (OfFrames place (f ∷ fs) ∷ ps) some = λ e. cc
+has_head (OfRecord place (Some n) body ∷ ps) some = λ e. cc
+has_head (OfRecord place None body ∷ ps) some = λ e. cc
 
 -- one channel has the next piece
 pub one_next : (channels : List ChannelLeft) (at other : ℕ) (c d : ChannelLeft) → AreNamedApart channels → IsNextAt channels at c → IsNextAt channels other d
@@ -180,11 +180,3 @@ one_merge after tick channels (OfPiece c x ∷ m) (OfPiece d y ∷ n) apart p q 
     let ids : d ≡ c = step.channel_is in
     let pieces : y ≡ x = step.piece_is in
     cc
-
--- ---- times
-
-pub times_follow : (after : ℕ → ℕ) (tick : ℕ) (channels : List ChannelLeft) (out : List Merged) → Merges after tick channels out
-    → FollowEachOther after tick (times_in out)
-times_follow after tick channels [] m = tt
-times_follow after tick channels (OfTime t ∷ out) m = (m.0, times_follow after (after tick) channels out m.2)
-times_follow after tick channels (OfPiece c p ∷ out) m = times_follow after tick m.0 out m.2

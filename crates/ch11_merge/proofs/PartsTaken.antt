@@ -1,11 +1,11 @@
 -- What is taken of the first piece of frames, and what is left.
 use Rattle.std.proofs.Common.{ℕ, suc, zero, ◌+◌, ◌^◌, ◌≡◌, ◌≤◌, ◌<◌, inl, inr, List, [], ◌∷◌, ◌++◌, length, take, drop}
-use Rattle.std.proofs.Common.{refl, sym, ◌∙◌, ap, subst, arith, Some, map, get_or}
-use Rattle.std.specs.Prelude.{Bool, true, false, nat_le, nat_lt, if◌then◌else◌, ◌&&◌, slice_get, option_map}
-use Rattle.std.proofs.lemmas.Bool.{cases_Bool, and_parts, and_left, and_right, cond-true, cond-false, true≢false, le-ltb, lt-ltb, leb-false, and_from}
+use Rattle.std.proofs.Common.{refl, sym, ◌∙◌, ap, subst, arith, Some}
+use Rattle.std.specs.Prelude.{Bool, true, false, nat_le, nat_lt, if◌then◌else◌, ◌&&◌, slice_get}
+use Rattle.std.proofs.lemmas.Bool.{cases_Bool, and_parts, and_left, cond-true, cond-false, true≢false, lt-ltb, leb-false, and_from}
 use Rattle.std.proofs.lemmas.Bool.Decides.{nat_tests}
-use Rattle.std.proofs.lemmas.List.{take_more, drop_all}
-use Rattle.std.proofs.lemmas.Option.{same_Some, none-some, slice_get_within, get_or_from_slice_get, slice_get-get_or, slice_get-map}
+use Rattle.std.proofs.lemmas.List.{take_more}
+use Rattle.std.proofs.lemmas.Option.{same_Some, none-some, slice_get_within, get_or_from_slice_get}
 use Rattle.std.proofs.Math.Seq.{drop-cons}
 use Rattle.ch11_packet.specs.declared.header.TheConstants.{MAX_ETHERNET_PACKET_LEN}
 use Rattle.ch11_packet.specs.Frames.{frame_len}
@@ -20,17 +20,18 @@ use Rattle.ch11_merge.specs.Merging.FilePiece.{OfFrames}
 use Rattle.ch11_merge.specs.Parts.{cut_behind, pieces_left, goes_with, GoWith, Stays, IsPart, IsPartOf}
 
 -- what is split of the frames behind a piece so far
-record IsSplit (tick : ℕ) (piece next : PieceSoFar) (frames taken left : List ReadFrameData) : Type 0 where
-  pub before : frames_before tick (cut_behind piece frames).0 ≡ taken
-  pub from : piece_of (frames_from tick (cut_behind piece frames).0) ++ (cut_behind piece frames).1 ≡ pieces_left next left
+record IsSplit (tick place : ℕ) (piece next : PieceSoFar) (frames taken left : List ReadFrameData) : Type 0 where
+  pub before : frames_before tick (cut_behind place piece frames).0 ≡ taken
+  pub from : piece_of place (frames_from tick (cut_behind place piece frames).0) ++ (cut_behind place piece frames).1 ≡ pieces_left place next left
 
 still_late : (a b : Bool) → a ≡ true → (a && b) ≡ false → b ≡ false
 still_late true b on both = both
 still_late false b on both = absurd (true≢false (sym on))
 
-split_here : (tick : ℕ) (piece next : PieceSoFar) (frames : List ReadFrameData) → Stays tick piece frames next → IsSplit tick piece next frames [] frames
-split_here tick piece next [] s = record { before = refl; from = refl }
-split_here tick piece next (f ∷ fs) s = elim (cases_Bool (goes_on piece f)) as (λ _. IsSplit tick piece next (f ∷ fs) [] (f ∷ fs)) [
+split_here : (tick place : ℕ) (piece next : PieceSoFar) (frames : List ReadFrameData) → Stays tick piece frames next
+    → IsSplit tick place piece next frames [] frames
+split_here tick place piece next [] s = record { before = refl; from = refl }
+split_here tick place piece next (f ∷ fs) s = elim (cases_Bool (goes_on piece f)) as (λ _. IsSplit tick place piece next (f ∷ fs) [] (f ∷ fs)) [
   | inl on ↦
       let late : nat_lt f.counter tick ≡ false = still_late (goes_on piece f) (nat_lt f.counter tick) on s.0 in
       let same : next ≡ piece = s.1 ∙ cond-true (goes_on piece f) piece (piece_before f.counter) on in
@@ -40,12 +41,12 @@ split_here tick piece next (f ∷ fs) s = elim (cases_Bool (goes_on piece f)) as
       record { before = rw off refl; from = rw (off, same) refl }
 ]
 
-split_at : (tick : ℕ) (piece next : PieceSoFar) (frames : List ReadFrameData) (len : ℕ) → len ≤ length frames → GoWith tick piece (take len frames)
-    → Stays tick (with_frames piece (take len frames)) (drop len frames) next → IsSplit tick piece next frames (take len frames) (drop len frames)
-split_at tick piece next frames zero within go s = split_here tick piece next frames s
-split_at tick piece next [] (suc len) within go s = absurd (omega arith)
-split_at tick piece next (f ∷ fs) (suc len) within go s =
-    let rest = split_at tick (with_frame piece f) next fs len (omega arith) go.1 s in
+split_at : (tick place : ℕ) (piece next : PieceSoFar) (frames : List ReadFrameData) (len : ℕ) → len ≤ length frames → GoWith tick piece (take len frames)
+    → Stays tick (with_frames piece (take len frames)) (drop len frames) next → IsSplit tick place piece next frames (take len frames) (drop len frames)
+split_at tick place piece next frames zero within go s = split_here tick place piece next frames s
+split_at tick place piece next [] (suc len) within go s = absurd (omega arith)
+split_at tick place piece next (f ∷ fs) (suc len) within go s =
+    let rest = split_at tick place (with_frame piece f) next fs len (omega arith) go.1 s in
     let parts = and_parts (goes_on piece f) (nat_lt f.counter tick) go.0 in
     record {
       before = rw (parts.0, parts.1) (ap (λ (xs : List ReadFrameData). f ∷ xs) rest.before);
@@ -53,11 +54,11 @@ split_at tick piece next (f ∷ fs) (suc len) within go s =
     }
 
 -- the part is taken of the pieces
-part_taken : (tick : ℕ) (ahead next : PieceSoFar) (f : ReadFrameData) (fs : List ReadFrameData) (len : ℕ) → nat_lt f.counter tick ≡ true
+part_taken : (tick place : ℕ) (ahead next : PieceSoFar) (f : ReadFrameData) (fs : List ReadFrameData) (len : ℕ) → nat_lt f.counter tick ≡ true
     → IsPart tick (with_frame ahead f) fs len next
-    → TakesPart tick (pieces_left ahead (f ∷ fs)) (OfFrames (f ∷ take len fs)) (pieces_left next (drop len fs))
-part_taken tick ahead next f fs len early p =
-    let s = split_at tick (with_frame ahead f) next fs len p.within p.go p.stays in
+    → TakesPart tick (pieces_left place ahead (f ∷ fs)) (OfFrames place (f ∷ take len fs)) (pieces_left place next (drop len fs))
+part_taken tick place ahead next f fs len early p =
+    let s = split_at tick place (with_frame ahead f) next fs len p.within p.go p.stays in
     (rw (early, s.before) refl, rw early (sym s.from))
 
 -- ---- the code
@@ -134,18 +135,6 @@ part_here tick ahead frames k piece next f so is off n =
       stays = rw (so.ends, drop-cons so.more so.len f, get_or_from_slice_get so.more so.len f f there) (off, n);
     })
 
-pub part_all : (tick : ℕ) (ahead : PieceSoFar) (frames : List ReadFrameData) (k : ℕ) (piece next : PieceSoFar) → IsPartSoFar tick ahead frames k piece
-    → k ≡ length frames → IsPartOf tick ahead frames k next
-part_all tick ahead frames k piece next so all =
-    part_of_parts tick ahead frames k next so.frame so.more so.len so.all so.len_is (record {
-      within = so.within;
-      go = so.go;
-      stays = rw (drop_all so.len so.more (omega (arith, all, so.len_is, ap length so.all))) tt;
-    })
-
-pub mapped_at : {A B : Type 0} (f : A → B) (xs : List A) (k : ℕ) (x : A) → k < length xs → x ≡ get_or xs k x → slice_get (map f xs) k ≡ Some (f x)
-mapped_at f xs k x within is = slice_get-map f xs k ∙ ap (option_map f) (slice_get-get_or xs k x within ∙ ap Some (sym is))
-
 short_body : (d : ℕ) → nat_le (written_len WithSum d) MAX_ETHERNET_PACKET_LEN ≡ true → d < 2 ^ 32
 short_body d fits = grind (arith, nat_tests)
 
@@ -156,13 +145,13 @@ fits_body piece f on = short_body (piece.len + frame_len (length f.bytes))
     (nat_le (written_len WithSum (piece.len + frame_len (length f.bytes))) MAX_ETHERNET_PACKET_LEN) on).1
 
 -- what is taken of the pieces of frames, and what is left
-pub taken_of : (tick : ℕ) (ahead next : PieceSoFar) (frames : List ReadFrameData) (len : ℕ) (taken left : List ReadFrameData)
-    → is_due tick (head_of (pieces_left ahead frames)) ≡ false → IsPartOf tick ahead frames len next → taken ≡ take len frames → left ≡ drop len frames
-    → TakesPart tick (pieces_left ahead frames) (OfFrames taken) (pieces_left next left)
-taken_of tick ahead next [] len taken left early p e f = absurd p
-taken_of tick ahead next (x ∷ xs) zero taken left early p e f = absurd p
-taken_of tick ahead next (x ∷ xs) (suc len) taken left early p e f =
-    rw (e, f) (part_taken tick ahead next x xs len (lt-ltb x.counter tick (leb-false tick x.counter early)) p)
+pub taken_of : (tick place : ℕ) (ahead next : PieceSoFar) (frames : List ReadFrameData) (len : ℕ) (taken left : List ReadFrameData)
+    → is_due tick (head_of (pieces_left place ahead frames)) ≡ false → IsPartOf tick ahead frames len next → taken ≡ take len frames → left ≡ drop len frames
+    → TakesPart tick (pieces_left place ahead frames) (OfFrames place taken) (pieces_left place next left)
+taken_of tick place ahead next [] len taken left early p e f = absurd p
+taken_of tick place ahead next (x ∷ xs) zero taken left early p e f = absurd p
+taken_of tick place ahead next (x ∷ xs) (suc len) taken left early p e f =
+    rw (e, f) (part_taken tick place ahead next x xs len (lt-ltb x.counter tick (leb-false tick x.counter early)) p)
 
 -- the next frame begins another piece
 pub part_cut : (tick : ℕ) (ahead : PieceSoFar) (frames : List ReadFrameData) (k : ℕ) (piece : PieceSoFar) (f : ReadFrameData)
@@ -170,13 +159,6 @@ pub part_cut : (tick : ℕ) (ahead : PieceSoFar) (frames : List ReadFrameData) (
 part_cut tick ahead frames k piece f so is off =
     part_here tick ahead frames k piece (piece_before f.counter) f so is (and_left (goes_on piece f) (nat_lt f.counter tick) off)
     (sym (cond-false (goes_on piece f) piece (piece_before f.counter) off))
-
--- the next frame goes on with the piece, behind the time packet
-pub part_late : (tick : ℕ) (ahead : PieceSoFar) (frames : List ReadFrameData) (k : ℕ) (piece : PieceSoFar) (f : ReadFrameData)
-    → IsPartSoFar tick ahead frames k piece → slice_get frames k ≡ Some f → goes_on piece f ≡ true → tick ≤ f.counter → IsPartOf tick ahead frames k piece
-part_late tick ahead frames k piece f so is on after =
-    part_here tick ahead frames k piece piece f so is (and_right (goes_on piece f) (nat_lt f.counter tick) (le-ltb f.counter tick after))
-    (sym (cond-true (goes_on piece f) piece (piece_before f.counter) on))
 
 pub part_more : (tick : ℕ) (ahead : PieceSoFar) (frames : List ReadFrameData) (k : ℕ) (piece : PieceSoFar) (f : ReadFrameData)
     → IsPartSoFar tick ahead frames k piece → slice_get frames k ≡ Some f → goes_on piece f ≡ true → f.counter < tick

@@ -35,9 +35,9 @@ before_tick tick (f ∷ fs) = elim (cases_Bool (nat_lt f.counter tick)) as (λ _
 ]
 
 part_lies : (tick : ℕ) (piece : FilePiece) (pieces : List FilePiece) → is_due tick (head_of (piece ∷ pieces)) ≡ false → LiesBefore (part_before tick piece) tick
-part_lies tick (OfFrames fs) pieces early = before_tick tick fs
-part_lies tick (OfRecord (Some c) body) pieces early = grind (arith, nat_tests)
-part_lies tick (OfRecord None body) pieces early = tt
+part_lies tick (OfFrames place fs) pieces early = before_tick tick fs
+part_lies tick (OfRecord place (Some c) body) pieces early = grind (arith, nat_tests)
+part_lies tick (OfRecord place None body) pieces early = tt
 
 pub taken_lies : (tick : ℕ) (old : List FilePiece) (taken : FilePiece) (new : List FilePiece) → is_due tick (head_of old) ≡ false → TakesPart tick old taken new
     → LiesBefore taken tick
@@ -45,9 +45,9 @@ taken_lies tick [] taken new early t = absurd t
 taken_lies tick (p ∷ ps) taken new early t = subst (λ piece. LiesBefore piece tick) (sym t.0) (part_lies tick p ps early)
 
 lies_later : (piece : FilePiece) (tick time : ℕ) → tick ≤ time → LiesBefore piece tick → LiesBefore piece time
-lies_later (OfFrames fs) tick time later lies = weaker (λ f. f.counter < tick) (λ f. f.counter < time) (λ f h. omega (arith, h, later)) fs lies
-lies_later (OfRecord (Some c) body) tick time later lies = omega (arith, lies, later)
-lies_later (OfRecord None body) tick time later lies = tt
+lies_later (OfFrames place fs) tick time later lies = weaker (λ f. f.counter < tick) (λ f. f.counter < time) (λ f h. omega (arith, h, later)) fs lies
+lies_later (OfRecord place (Some c) body) tick time later lies = omega (arith, lies, later)
+lies_later (OfRecord place None body) tick time later lies = tt
 
 pub times_ahead : (after : ℕ → ℕ) (tick : ℕ) (channels : List ChannelLeft) (out : List Merged) → ((time : ℕ) → time ≤ after time)
     → Merges after tick channels out → TimesStandAhead out

@@ -38,12 +38,12 @@ IsFrom tick End = Unit {0}
 
 all_from : (tick : ℕ) (pieces : List FilePiece) → IsSteady pieces → IsFrom tick (head_of pieces) → AllByRecursion (LiesFrom tick) (flat_map held_in pieces)
 all_from tick [] steady from = tt
-all_from tick (OfFrames [] ∷ pieces) steady from = absurd (steady.some.0 refl)
-all_from tick (OfFrames (frame ∷ frames) ∷ pieces) steady from =
+all_from tick (OfFrames place [] ∷ pieces) steady from = absurd (steady.some.0 refl)
+all_from tick (OfFrames place (frame ∷ frames) ∷ pieces) steady from =
     (from, weaker (LiesFrom frame.counter) (LiesFrom tick) (λ held lies. lies_earlier tick frame.counter held from lies) _ steady.rises.0)
-all_from tick (OfRecord (Some counter) body ∷ pieces) steady from =
+all_from tick (OfRecord place (Some counter) body ∷ pieces) steady from =
     (from, weaker (LiesFrom counter) (LiesFrom tick) (λ held lies. lies_earlier tick counter held from lies) _ steady.rises.0)
-all_from tick (OfRecord None body ∷ pieces) steady from =
+all_from tick (OfRecord place None body ∷ pieces) steady from =
     (tt, weaker HasNoCounter (LiesFrom tick) (no_counter_lies tick) _ steady.rises.0)
 
 -- no channel's next piece lies before the tick of a time packet that is due
@@ -64,13 +64,13 @@ all_append : {X : Type 0} (P : X → Type 0) (xs ys : List X) → AllByRecursion
 all_append P [] ys all more = more
 all_append P (x ∷ xs) ys all more = (all.0, all_append P xs ys all.1 more)
 
-piece_some : (frames : List ReadFrameData) → AllByRecursion (λ piece. held_in piece ≢ []) (piece_of frames)
-piece_some [] = tt
-piece_some (frame ∷ frames) = ((λ e. cc), tt)
+piece_some : (place : ℕ) (frames : List ReadFrameData) → AllByRecursion (λ piece. held_in piece ≢ []) (piece_of place frames)
+piece_some place [] = tt
+piece_some place (frame ∷ frames) = ((λ e. cc), tt)
 
 part_some : (tick : ℕ) (piece : FilePiece) → AllByRecursion (λ piece. held_in piece ≢ []) (part_from tick piece)
-part_some tick (OfFrames frames) = piece_some (frames_from tick frames)
-part_some tick (OfRecord counter body) = tt
+part_some tick (OfFrames place frames) = piece_some place (frames_from tick frames)
+part_some tick (OfRecord place counter body) = tt
 
 steady_behind : (tick : ℕ) (old : List FilePiece) (taken : FilePiece) (new : List FilePiece) → TakesPart tick old taken new → IsSteady old → IsSteady new
 steady_behind tick [] taken new takes steady = absurd takes

@@ -13,8 +13,8 @@ pub data Held : Type 0 where
 
 -- what a piece holds, in order
 abbrev pub held_in : FilePiece → List Held
-held_in (OfFrames frames) = map HeldFrame frames
-held_in (OfRecord counter body) = HeldRecord counter body ∷ []
+held_in (OfFrames place frames) = map HeldFrame frames
+held_in (OfRecord place counter body) = HeldRecord counter body ∷ []
 
 -- what stands in a file of a channel, in order
 abbrev pub held_of : (channel : ℕ) → List Merged → List Held
@@ -35,16 +35,11 @@ times_in [] = []
 times_in (OfTime tick ∷ out) = tick ∷ times_in out
 times_in (OfPiece channel piece ∷ out) = times_in out
 
--- each of these ticks comes behind the one ahead of it
-abbrev pub FollowEachOther : (after : ℕ → ℕ) → (tick : ℕ) → List ℕ → Type 0
-FollowEachOther after tick [] = Unit {0}
-FollowEachOther after tick (time ∷ times) = (time ≡ tick) × FollowEachOther after (after tick) times
-
 -- the counters of a piece lie before this tick
 abbrev pub LiesBefore : FilePiece → (tick : ℕ) → Type 0
-LiesBefore (OfFrames frames) tick = AllByRecursion (λ frame. frame.counter < tick) frames
-LiesBefore (OfRecord (Some counter) body) tick = counter < tick
-LiesBefore (OfRecord None body) tick = Unit {0}
+LiesBefore (OfFrames place frames) tick = AllByRecursion (λ frame. frame.counter < tick) frames
+LiesBefore (OfRecord place (Some counter) body) tick = counter < tick
+LiesBefore (OfRecord place None body) tick = Unit {0}
 
 -- behind each piece stand no time packets but those before whose ticks it lies
 abbrev pub TimesStandAhead : List Merged → Type 0

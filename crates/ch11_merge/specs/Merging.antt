@@ -7,10 +7,11 @@ use Rattle.ch11_merge.specs.declared.source.Head.TheVariants.{At, Uncounted, End
 
 -- ---- what is merged
 
--- a piece of a channel: frames, or a record with its counter, if it has one
+-- a piece of a channel, of the packet at a place in its recording: frames, or a record with its counter, if
+-- it has one
 pub data FilePiece : Type 0 where
-  OfFrames : List ReadFrameData → FilePiece
-  OfRecord : (counter : Option ℕ) → (body : List ℕ) → FilePiece
+  OfFrames : (place : ℕ) → List ReadFrameData → FilePiece
+  OfRecord : (place : ℕ) → (counter : Option ℕ) → (body : List ℕ) → FilePiece
 
 -- what is left of a channel: its ID, and its pieces in order
 pub record ChannelLeft : Type 0 where
@@ -22,14 +23,24 @@ pub data Merged : Type 0 where
   OfTime : (tick : ℕ) → Merged
   OfPiece : (channel : ℕ) → FilePiece → Merged
 
+-- where the packet of a piece stands
+abbrev pub place_of : FilePiece → ℕ
+place_of (OfFrames place frames) = place
+place_of (OfRecord place counter body) = place
+
+-- the first of these pieces is of the packet at this place
+abbrev pub StandsFirst : List FilePiece → (place : ℕ) → Type 0
+StandsFirst [] place = ⊥
+StandsFirst (piece ∷ pieces) place = place ≡ place_of piece
+
 -- ---- which comes next
 
 -- a piece's place in time: its first frame's counter, or its own
 abbrev pub head_of_piece : FilePiece → Head
-head_of_piece (OfFrames []) = Uncounted
-head_of_piece (OfFrames (frame ∷ frames)) = At frame.counter
-head_of_piece (OfRecord (Some counter) body) = At counter
-head_of_piece (OfRecord None body) = Uncounted
+head_of_piece (OfFrames place []) = Uncounted
+head_of_piece (OfFrames place (frame ∷ frames)) = At frame.counter
+head_of_piece (OfRecord place (Some counter) body) = At counter
+head_of_piece (OfRecord place None body) = Uncounted
 
 -- that of the first of these pieces
 abbrev pub head_of : List FilePiece → Head
@@ -80,18 +91,18 @@ frames_from tick (frame ∷ frames) =
     if nat_lt frame.counter tick then frames_from tick frames else frame ∷ frames
 
 -- frames as a piece, if there are any
-abbrev pub piece_of : List ReadFrameData → List FilePiece
-piece_of [] = []
-piece_of (frame ∷ frames) = OfFrames (frame ∷ frames) ∷ []
+abbrev pub piece_of : (place : ℕ) → List ReadFrameData → List FilePiece
+piece_of place [] = []
+piece_of place (frame ∷ frames) = OfFrames place (frame ∷ frames) ∷ []
 
 -- what goes out of a piece ahead of the tick, and what stays: a record goes whole
 abbrev pub part_before : (tick : ℕ) → FilePiece → FilePiece
-part_before tick (OfFrames frames) = OfFrames (frames_before tick frames)
-part_before tick (OfRecord counter body) = OfRecord counter body
+part_before tick (OfFrames place frames) = OfFrames place (frames_before tick frames)
+part_before tick (OfRecord place counter body) = OfRecord place counter body
 
 abbrev pub part_from : (tick : ℕ) → FilePiece → List FilePiece
-part_from tick (OfFrames frames) = piece_of (frames_from tick frames)
-part_from tick (OfRecord counter body) = []
+part_from tick (OfFrames place frames) = piece_of place (frames_from tick frames)
+part_from tick (OfRecord place counter body) = []
 
 -- what was taken of the first of these pieces, and what is left
 abbrev pub TakesPart : (tick : ℕ) → (old : List FilePiece) → FilePiece → (new : List FilePiece) → Type 0

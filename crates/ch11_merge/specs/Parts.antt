@@ -8,36 +8,37 @@ use Rattle.ch11_merge.specs.Merging.FilePiece.{OfFrames, OfRecord}
 
 -- ---- all pieces
 
--- of frames behind a piece so far: those that go on with it, and the pieces behind it
-abbrev pub cut_behind : PieceSoFar → List ReadFrameData → List ReadFrameData × List FilePiece
-cut_behind piece [] = ([], [])
-cut_behind piece (frame ∷ frames) =
+-- of frames of the packet at a place, behind a piece so far: those that go on with it, and the pieces behind it
+abbrev pub cut_behind : (place : ℕ) → PieceSoFar → List ReadFrameData → List ReadFrameData × List FilePiece
+cut_behind place piece [] = ([], [])
+cut_behind place piece (frame ∷ frames) =
     if goes_on piece frame
     then (
-      frame ∷ (cut_behind (with_frame piece frame) frames).0,
-      (cut_behind (with_frame piece frame) frames).1,
+      frame ∷ (cut_behind place (with_frame piece frame) frames).0,
+      (cut_behind place (with_frame piece frame) frames).1,
     )
     else (
       [],
-      OfFrames (frame ∷ (cut_behind (begun frame) frames).0) ∷ (cut_behind (begun frame) frames).1,
+      OfFrames place (frame ∷ (cut_behind place (begun frame) frames).0)
+          ∷ (cut_behind place (begun frame) frames).1,
     )
 
 -- the pieces of frames of which the first belongs to this piece
-abbrev pub pieces_left : (ahead : PieceSoFar) → List ReadFrameData → List FilePiece
-pieces_left ahead [] = []
-pieces_left ahead (frame ∷ frames) =
-    OfFrames (frame ∷ (cut_behind (with_frame ahead frame) frames).0)
-    ∷ (cut_behind (with_frame ahead frame) frames).1
+abbrev pub pieces_left : (place : ℕ) → (ahead : PieceSoFar) → List ReadFrameData → List FilePiece
+pieces_left place ahead [] = []
+pieces_left place ahead (frame ∷ frames) =
+    OfFrames place (frame ∷ (cut_behind place (with_frame ahead frame) frames).0)
+    ∷ (cut_behind place (with_frame ahead frame) frames).1
 
 -- the pieces of frames of which the first begins a piece
-abbrev pub frames_pieces : List ReadFrameData → List FilePiece
-frames_pieces [] = []
-frames_pieces (frame ∷ frames) = pieces_left (piece_before frame.counter) (frame ∷ frames)
+abbrev pub frames_pieces : (place : ℕ) → List ReadFrameData → List FilePiece
+frames_pieces place [] = []
+frames_pieces place (frame ∷ frames) = pieces_left place (piece_before frame.counter) (frame ∷ frames)
 
 -- the frames of a piece
 abbrev pub frames_of_piece : FilePiece → List ReadFrameData
-frames_of_piece (OfFrames frames) = frames
-frames_of_piece (OfRecord counter body) = []
+frames_of_piece (OfFrames place frames) = frames
+frames_of_piece (OfRecord place counter body) = []
 
 -- ---- the part ahead of a tick
 

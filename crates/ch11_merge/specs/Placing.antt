@@ -1,11 +1,12 @@
 -- What sources of pieces say, and what of them has the next place in a file.
-use Rattle.std.specs.Prelude.{ℕ, ◌≡◌, ◌≢◌, ◌⊎◌, false, List, map, All, Option, None, Some, slice_get}
+use Rattle.std.specs.Prelude.{ℕ, ◌≡◌, ◌≢◌, false, List, map, All, Option, None, Some, slice_get}
 use Rattle.ch11_merge.specs.declared.source.Head.{Head}
 use Rattle.ch11_merge.specs.declared.source.Head.TheVariants.{End}
 use Rattle.ch11_merge.specs.declared.channels.MergedChannel.{MergedChannel}
+use Rattle.ch11_merge.specs.declared.placed.NextPiece.{NextPiece}
 use Rattle.ch11_merge.specs.declared.placed.Placed.{Placed}
 use Rattle.ch11_merge.specs.declared.placed.Placed.TheVariants.{Time, Piece}
-use Rattle.ch11_merge.specs.Merging.{FilePiece, ChannelLeft, head_of, is_ahead, IsNextAt, TimeIsNext, PieceIsNext, NothingLeft, Merged}
+use Rattle.ch11_merge.specs.Merging.{FilePiece, ChannelLeft, head_of, is_ahead, IsNextAt, StandsFirst, TimeIsNext, PieceIsNext, NothingLeft, Merged}
 use Rattle.ch11_merge.specs.Merging.Merged.{OfTime, OfPiece}
 
 -- what a channel's source says: the channel's ID, and the pieces that are left, if it says them
@@ -48,8 +49,15 @@ abbrev pub Answers : {P : Type 0} → (P → FilePiece) → (tick : ℕ) → (ol
 Answers data_of tick old (Some placed) new = Places tick old (placed_data data_of placed) new
 Answers data_of tick old None new = NothingLeft old × (new ≡ old)
 
--- where the next piece stands: at the end where nothing is left
-abbrev pub IsNextHead : List ChannelLeft → Head → Type 0
-IsNextHead old head =
-    (NothingLeft old × (head ≡ End))
-    ⊎ ((at : ℕ) × (of : ChannelLeft) × IsNextAt old at of × (head ≡ head_of of.pieces))
+-- the next piece of these channels stands there
+pub record StandsNext (old : List ChannelLeft) (next : NextPiece) : Type 0 where
+  pub at : ℕ
+  pub of : ChannelLeft
+  pub is_next : IsNextAt old at of
+  pub head_is : next.head ≡ head_of of.pieces
+  pub place_is : StandsFirst of.pieces next.place
+
+-- where the next piece stands, if anything is left
+abbrev pub IsNextPiece : List ChannelLeft → Option NextPiece → Type 0
+IsNextPiece old (Some next) = StandsNext old next
+IsNextPiece old None = NothingLeft old

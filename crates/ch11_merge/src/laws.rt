@@ -7,8 +7,8 @@ ghost use Rattle.ch11_merge.specs.Pieces.{AreCut};
 ghost use Rattle.ch11_merge.specs.Short.{IsShortPiece};
 ghost use Rattle.ch11_merge.specs.Parts.{frames_of_piece, frames_pieces};
 ghost use Rattle.ch11_merge.specs.Merging.{ChannelLeft, Merged, Merges};
-ghost use Rattle.ch11_merge.specs.Kept.{AreNamedApart, FollowEachOther, IsSteady, LieBehindTimes};
-ghost use Rattle.ch11_merge.specs.Kept.{TimesStandAhead, held_in, held_of, times_in};
+ghost use Rattle.ch11_merge.specs.Kept.{AreNamedApart, IsSteady, LieBehindTimes};
+ghost use Rattle.ch11_merge.specs.Kept.{TimesStandAhead, held_in, held_of};
 
 /// Law: all frames can be cut into pieces.
 pub fn frames_have_pieces()
@@ -28,10 +28,10 @@ pub fn pieces_are_short()
         → AreCut frames pieces → AllByRecursion IsShortPiece pieces }
 {}
 
-/// Law: the pieces that a source of frames gives are those into which they are cut.
+/// Law: the pieces of a packet's frames are those into which they are cut.
 pub fn pieces_of_frames_are_the_cut()
-    ensures { (frames : List ReadFrameData)
-        → AreCut frames (map frames_of_piece (frames_pieces frames)) }
+    ensures { (place : ℕ) (frames : List ReadFrameData)
+        → AreCut frames (map frames_of_piece (frames_pieces place frames)) }
 {}
 
 /// Law: a merge holds of each channel what its pieces held, in order and once each: frames and records.
@@ -54,12 +54,6 @@ pub fn there_is_one_merge()
     ensures { (after : ℕ → ℕ) (tick : ℕ) (channels : List ChannelLeft) (out others : List Merged)
         → AreNamedApart channels → Merges after tick channels out
         → Merges after tick channels others → others ≡ out }
-{}
-
-/// Law: the time packets of a merge follow each other.
-pub fn times_follow_each_other()
-    ensures { (after : ℕ → ℕ) (tick : ℕ) (channels : List ChannelLeft) (out : List Merged)
-        → Merges after tick channels out → FollowEachOther after tick (times_in out) }
 {}
 
 /// Law: where the ticks of time packets never fall, each time packet whose tick is at most the counter of a

@@ -3,7 +3,6 @@
 #![tactic(auto)]
 
 mod channels;
-mod frames;
 mod laws;
 mod piece;
 mod placed;
@@ -11,12 +10,11 @@ mod source;
 mod waiting;
 
 pub use channels::{MergedChannel, MergedChannels};
-pub use frames::FramesSource;
 pub use laws::{
     a_merge_has_no_other_channel, a_merge_keeps_each_channel, frames_are_cut_in_one_way,
     frames_have_pieces, pieces_are_short, pieces_of_frames_are_the_cut, there_is_one_merge,
-    time_packets_stand_ahead, time_packets_stand_late, times_follow_each_other,
+    time_packets_stand_ahead, time_packets_stand_late,
 };
 pub use piece::{PIECE_TICKS, PieceSoFar};
-pub use placed::{Placed, next_head, next_placed};
+pub use placed::{NextPiece, Placed, next_piece, next_placed};
 pub use source::{Head, PieceFault, PieceSource};

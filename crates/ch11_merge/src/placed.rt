@@ -2,7 +2,7 @@
 
 ghost use Rattle.std.specs.Prelude.{◌≡◌, List, IfOk};
 ghost use Rattle.ch11_merge.specs.Merging.{ChannelLeft, is_due};
-ghost use Rattle.ch11_merge.specs.Placing.{Answers, IsNextHead, SayLeft};
+ghost use Rattle.ch11_merge.specs.Placing.{Answers, IsNextPiece, SayLeft};
 
 use crate::channels::{MergedChannels, first_of, stand_again};
 use crate::source::{Head, PieceFault, PieceSource};
@@ -41,14 +41,28 @@ pub fn next_placed<S: PieceSource>(
     Ok(Some(Placed::Piece { channel, piece }))
 }
 
-/// Where the next piece of these channels stands: `End` where each source is at its end.
-pub fn next_head<S: PieceSource>(channels: &MergedChannels<S>) -> Head
-    ensures { (old : List ChannelLeft) → SayLeft S.left channels.now old
-        → IsNextHead old result }
+/// Where the next piece of channels stands.
+#[derive(Clone, Copy, Debug, PartialEq, Eq)]
+pub struct NextPiece {
+    /// Where it stands in the file.
+    pub head: Head,
+    /// Where its packet stands in the recording.
+    pub place: u64,
+}
+
+/// Where the next piece of these channels stands: `None` where each source is at its end.
+pub fn next_piece<S: PieceSource>(channels: &MergedChannels<S>) -> Option<NextPiece>
+    ensures { (old : List ChannelLeft) → SayLeft S.left channels.now old → IsNextPiece old result }
 {
     match first_of(channels.channels.as_slice(), &channels.waiting) {
-        Some(at) => channels.channels[at].source.head(),
-        None => Head::End,
+        Some(at) => {
+            let first = &channels.channels[at];
+            Some(NextPiece {
+                head: first.source.head(),
+                place: first.source.place(),
+            })
+        }
+        None => None,
     }
 }
 

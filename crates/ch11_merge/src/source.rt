@@ -1,7 +1,6 @@
 //! What a source of pieces is.
 
 use std::alloc::{AllocError, AllocFailed};
-use thiserror::Error;
 
 /// Where a source stands. A lesser one comes first.
 #[derive(Clone, Copy, Debug, PartialEq, Eq, PartialOrd, Ord)]
@@ -15,13 +14,11 @@ pub enum Head {
 }
 
 /// Why a source gives no more pieces.
-#[derive(Clone, Copy, Debug, PartialEq, Eq, Error)]
+#[derive(Clone, Copy, Debug, PartialEq, Eq)]
 pub enum PieceFault {
     /// The device failed.
-    #[error("Device")]
     Device,
     /// Out of memory.
-    #[error("memory")]
     Memory,
 }
 
@@ -52,7 +49,7 @@ pub trait PieceSource {
     ghost use Rattle.std.specs.Prelude.{ℕ, ◌≡◌, ◌≢◌, false, List, Option, IfSome, IsSomeAnd, IfOk};
     ghost use Rattle.ch11_merge.specs.declared.source.Head.TheVariants.{End};
     ghost use Rattle.ch11_merge.specs.declared.source.Head.{Head};
-    ghost use Rattle.ch11_merge.specs.Merging.{FilePiece, head_of, is_due, TakesPart};
+    ghost use Rattle.ch11_merge.specs.Merging.{FilePiece, StandsFirst, head_of, is_due, TakesPart};
 
     /// A piece, as it is given.
     type Piece;
@@ -69,6 +66,11 @@ pub trait PieceSource {
     /// Where the source stands.
     fn head(&self) -> Head
         ensures { result ≡ stands self.now };
+
+    /// Where the packet of the next piece stands in the recording.
+    fn place(&self) -> u64
+        requires { stands self.now ≢ Head.End }
+        ensures { IfSome (left self.now) (λ pieces. StandsFirst pieces result) };
 
     /// Takes the next piece, up to the first frame that doesn't lie before the tick. The rest is the
     /// next piece then.

@@ -17,7 +17,7 @@ use Rattle.ch11_setup.specs.Attributes.{AttributeData, attribute_of, Lacks, IsAt
 use Rattle.ch11_setup.specs.Names.{cleaned, source_name}
 use Rattle.ch11_setup.specs.Dates.{two_digits, date_text, day_time_text, date_time_text}
 use Rattle.ch11_setup.specs.Lines.{general_attributes, recorder_attributes, content_attributes, numbered, time_attributes, channel_attributes}
-use Rattle.ch11_setup.specs.Lines.{comment_attribute}
+use Rattle.ch11_setup.specs.Lines.{comment_attribute, index_attributes}
 use Rattle.ch11_setup.specs.Setups.{given_attribute, given_attributes, is_test_name, test_name}
 use Rattle.ch11_setup.specs.Setups.{channels_attributes, recording_attributes, source_attributes, setup_attributes, IsSetupChannel, IsSetup}
 use Rattle.ch11_setup.proofs.CleanedNames.{all_append, name_lacks_semicolons}
@@ -173,25 +173,16 @@ recorder_are host program time lack also is = (
   ),
 )
 
-content_are : (sources : ℕ) → sources < 2 ^ 64 → AreAttributes (content_attributes sources)
-content_are sources small = (
+index_are : (is_indexed : Bool) → AreAttributes (index_attributes is_indexed)
+index_are true = (constant _ _ refl refl, (constant _ _ refl refl, (constant _ _ refl refl, tt)))
+index_are false = (constant _ _ refl refl, tt)
+
+content_are : (is_indexed : Bool) (sources : ℕ) → sources < 2 ^ 64 → AreAttributes (content_attributes is_indexed sources)
+content_are is_indexed sources small = (
   constant _ _ refl refl,
-  (
-    constant _ _ refl refl,
-    (
-      constant _ _ refl refl,
-      (
-        constant _ _ refl refl,
-        (
-          constant _ _ refl refl,
-          (
-            named _ _ refl (decimal_lacks 59 sources (omega arith) small),
-            tt,
-          ),
-        ),
-      ),
-    ),
-  ),
+  are_append (index_attributes is_indexed)
+      (attribute_of (codes "R-1\\EV\\E") (codes "F") ∷ attribute_of (codes "R-1\\N") (decimal sources) ∷ []) (index_are is_indexed)
+      (constant _ _ refl refl, (named _ _ refl (decimal_lacks 59 sources (omega arith) small), tt)),
 )
 
 time_are : (channel : ℕ) (is_external : Bool) → channel < 2 ^ 64 → AreAttributes (time_attributes channel is_external)
@@ -296,7 +287,7 @@ setup_are setup is =
     let test = test_name setup.attributes.now in
     let general = general_attributes test host setup.time in
     let recorder = recorder_attributes host program setup.time in
-    let content = content_attributes (length setup.channels.now + 1) in
+    let content = content_attributes setup.is_indexed (length setup.channels.now + 1) in
     let time = time_attributes setup.time_channel setup.is_external in
     let channels = channels_attributes 2 setup.channels.now in
     let rest = comment_attribute ∷ given_attributes setup.attributes.now in
@@ -305,7 +296,7 @@ setup_are setup is =
     (name_lacks_semicolons setup.host.now) is.time)
     (are_append recorder content
     (recorder_are host program setup.time (name_lacks_semicolons setup.host.now) (name_lacks_semicolons setup.program.now) is.time)
-    (content_are (length setup.channels.now + 1) (omega (arith, number)))) in
+    (content_are setup.is_indexed (length setup.channels.now + 1) (omega (arith, number)))) in
     let sources =
     are_append time channels (time_are setup.time_channel setup.is_external (omega (arith, channel)))
     (channels_are 2 setup.channels.now (omega (arith, number)) is.channels) in

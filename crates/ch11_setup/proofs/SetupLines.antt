@@ -1,5 +1,6 @@
 -- The lines of a list of channels, and of what a user adds, one by one.
-use Rattle.std.proofs.Common.{ℕ, ◌≡◌, ◌<◌, ◌+◌, List, [], ◌∷◌, ◌++◌, length, get_or, drop, sym, ap, ◌∙◌, append_assoc}
+use Rattle.std.proofs.Common.{ℕ, ◌≡◌, ◌<◌, ◌+◌, List, [], ◌∷◌, ◌++◌, length, get_or, drop, sym, ap, ◌∙◌, append_assoc, append-nil}
+use Rattle.std.specs.Prelude.{Result, Ok, Err, OnOk}
 use Rattle.std.proofs.lemmas.List.{drop_more}
 use Rattle.ch11_setup.specs.declared.setup.SetupChannel.{SetupChannel}
 use Rattle.ch11_setup.specs.Attributes.{AttributeData, attribute_line, attributes_text}
@@ -40,3 +41,27 @@ whole_text start recorded with_sources with_comment all recording sources given 
     e4 ∙ ap (λ l. l ++ g) (e3 ∙ ap (λ l. l ++ c) (e2 ∙ ap (λ l. l ++ s) (e1 ∙ ap (λ l. l ++ r) e0)))
     ∙ append_assoc (r ++ s) c g ∙ append_assoc r s (c ++ g)
     ∙ sym (text_append recording (sources ++ (comment ∷ given)) ∙ ap (λ l. r ++ l) (text_append sources (comment ∷ given)))
+
+-- ---- what else the file has
+
+regroup : (o a i e m : List ℕ) → (((o ++ a) ++ i) ++ e) ++ m ≡ o ++ (a ++ (i ++ (e ++ m)))
+regroup o a i e m = simp append_assoc
+
+content_text : (old first second third all : List ℕ) (index : List AttributeData) (bits events sources : AttributeData)
+    → first ≡ old ++ attribute_line bits → second ≡ first ++ attributes_text index → third ≡ second ++ attribute_line events
+    → all ≡ third ++ attribute_line sources → all ≡ old ++ attributes_text (bits ∷ (index ++ (events ∷ sources ∷ [])))
+content_text old first second third all index bits events sources e1 e2 e3 e4 =
+    let a = attribute_line bits in
+    let i = attributes_text index in
+    let e = attribute_line events in
+    let m = attribute_line sources in
+    e4 ∙ ap (λ l. l ++ m) (e3 ∙ ap (λ l. l ++ e) (e2 ∙ ap (λ l. l ++ i) e1)) ∙ regroup old a i e m
+    ∙ sym (ap (λ l. old ++ (a ++ l)) (text_append index (events ∷ sources ∷ []) ∙ ap (λ l. i ++ (e ++ l)) (append-nil m)))
+
+pub content_added : {T E : Type 0} (result : Result T E) (old first second third all : List ℕ) (index : List AttributeData)
+    (bits events sources : AttributeData) → first ≡ old ++ attribute_line bits → second ≡ first ++ attributes_text index
+    → third ≡ second ++ attribute_line events → OnOk result (all ≡ third ++ attribute_line sources)
+    → OnOk result (all ≡ old ++ attributes_text (bits ∷ (index ++ (events ∷ sources ∷ []))))
+content_added (Ok u) old first second third all index bits events sources e1 e2 e3 e4 =
+    content_text old first second third all index bits events sources e1 e2 e3 e4
+content_added (Err e) old first second third all index bits events sources e1 e2 e3 e4 = tt

@@ -29,17 +29,25 @@ recorder_attributes host program time =
     ∷ attribute_of (codes "R-1\\RI4") (date_time_text time)
     ∷ []
 
--- what else the file has: no bits of the secondary kind, an index by counts, no events, and how
--- many data sources
-abbrev pub content_attributes : (sources : ℕ) → List AttributeData
-content_attributes sources =
-    attribute_of (codes "R-1\\NSB") (codes "0")
-    ∷ attribute_of (codes "R-1\\IDX\\E") (codes "T")
+-- an index by counts, or none
+abbrev pub index_attributes : (is_indexed : Bool) → List AttributeData
+index_attributes is_indexed =
+    if is_indexed then
+    attribute_of (codes "R-1\\IDX\\E") (codes "T")
     ∷ attribute_of (codes "R-1\\IDX\\IT") (codes "C")
     ∷ attribute_of (codes "R-1\\IDX\\ICV") (codes "1")
-    ∷ attribute_of (codes "R-1\\EV\\E") (codes "F")
-    ∷ attribute_of (codes "R-1\\N") (decimal sources)
     ∷ []
+    else attribute_of (codes "R-1\\IDX\\E") (codes "F") ∷ []
+
+-- what else the file has: no bits of the secondary kind, an index or none, no events, and how many
+-- data sources
+abbrev pub content_attributes : (is_indexed : Bool) (sources : ℕ) → List AttributeData
+content_attributes is_indexed sources =
+    attribute_of (codes "R-1\\NSB") (codes "0")
+    ∷ (index_attributes is_indexed
+    ++ (attribute_of (codes "R-1\\EV\\E") (codes "F")
+    ∷ attribute_of (codes "R-1\\N") (decimal sources)
+    ∷ []))
 
 -- ---- data sources
 

@@ -44,7 +44,7 @@ abbrev pub recording_attributes : Setup → List AttributeData
 recording_attributes setup =
     general_attributes (test_name setup.attributes.now) (cleaned setup.host.now) setup.time
     ++ (recorder_attributes (cleaned setup.host.now) (cleaned setup.program.now) setup.time
-    ++ content_attributes (length setup.channels.now + 1))
+    ++ content_attributes setup.is_indexed (length setup.channels.now + 1))
 
 -- the data sources: the time channel, and the Ethernet channels
 abbrev pub source_attributes : Setup → List AttributeData

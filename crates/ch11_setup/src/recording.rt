@@ -1,9 +1,9 @@
 //! What a setup record says of the recording and its recorder.
-ghost use Rattle.std.specs.Prelude.{◌≡◌, ◌++◌, ◌<◌, OnOk, string_bytes, codes};
+ghost use Rattle.std.specs.Prelude.{◌≡◌, ◌++◌, ◌<◌, true, OnOk, string_bytes, codes};
 ghost use Rattle.ch11_clock.specs.CivilTime.{IsCivilTime};
 ghost use Rattle.ch11_setup.specs.Attributes.{attribute_of, attribute_line, attributes_text};
 ghost use Rattle.ch11_setup.specs.Dates.{date_text, date_time_text};
-ghost use Rattle.ch11_setup.specs.Lines.{general_attributes, recorder_attributes, content_attributes};
+ghost use Rattle.ch11_setup.specs.Lines.{general_attributes, recorder_attributes, content_attributes, index_attributes};
 
 use crate::attribute::{TEST_NAME, push_attribute, push_number};
 use crate::date::{push_date, push_date_time};
@@ -73,14 +73,38 @@ fn push_first_time(text: &mut String, time: &CivilTime) -> Result<(), AllocError
 }
 
 /// Adds what else the file has, and how many data sources.
-pub(crate) fn push_content(text: &mut String, sources: u64) -> Result<(), AllocError>
+pub(crate) fn push_content(
+    text: &mut String,
+    is_indexed: bool,
+    sources: u64,
+) -> Result<(), AllocError>
     ensures { OnOk result (string_bytes text.new
-        ≡ string_bytes text.old ++ attributes_text (content_attributes sources)) }
+        ≡ string_bytes text.old ++ attributes_text (content_attributes is_indexed sources)) }
 {
     push_attribute(text, "R-1\\NSB", "0")?;
-    push_attribute(text, "R-1\\IDX\\E", "T")?;
-    push_attribute(text, "R-1\\IDX\\IT", "C")?;
-    push_attribute(text, "R-1\\IDX\\ICV", "1")?;
+    push_index(text, is_indexed)?;
     push_attribute(text, "R-1\\EV\\E", "F")?;
     push_number(text, "R-1\\N", sources)
+}
+
+/// Adds whether the file has an index.
+fn push_index(text: &mut String, is_indexed: bool) -> Result<(), AllocError>
+    ensures { OnOk result (string_bytes text.new
+        ≡ string_bytes text.old ++ attributes_text (index_attributes is_indexed)) }
+{
+    if is_indexed {
+        push_index_by_counts(text)
+    } else {
+        push_attribute(text, "R-1\\IDX\\E", "F")
+    }
+}
+
+/// Adds that the file has an index, and which kind.
+fn push_index_by_counts(text: &mut String) -> Result<(), AllocError>
+    ensures { OnOk result (string_bytes text.new
+        ≡ string_bytes text.old ++ attributes_text (index_attributes true)) }
+{
+    push_attribute(text, "R-1\\IDX\\E", "T")?;
+    push_attribute(text, "R-1\\IDX\\IT", "C")?;
+    push_attribute(text, "R-1\\IDX\\ICV", "1")
 }

@@ -45,7 +45,7 @@ fn push_recording(alloc: Global, text: &mut String, setup: &Setup) -> Result<(),
     let program = clean(alloc, setup.program.as_bytes())?;
     push_general(text, test_name(setup.attributes), &host, &setup.time)?;
     push_recorder(text, &host, &program, &setup.time)?;
-    push_content(text, setup.channels.len() as u64 + 1)
+    push_content(text, setup.is_indexed, setup.channels.len() as u64 + 1)
 }
 
 /// Adds the data sources.

@@ -5,8 +5,9 @@ ghost use Rattle.std.specs.Io.KnownBytes.{Appends};
 ghost use Rattle.cli_chapter11.specs.CountsLines.{counts_line};
 
 use crate::files::{listing_of, open_recording, setup_in};
+use crate::passes::WholeFile;
 use crate::uncreated::Uncreated;
-use crate::writing::{WholeFile, WriteEnd, judged_then_written};
+use crate::writing::{WriteEnd, judged_then_written};
 use ch11_file::FileCounts;
 use cli_streams::{CommandEnding, Inputs, LockFile, OutputFile, buffered_output, print_line};
 use rec_pieces::PlacedRead;
@@ -35,7 +36,7 @@ where
     inputs.add(&file)?;
     let settings = setup_in(rt, &mut inputs, setup, out)?;
     let listing = listing_of(alloc, recording, &file)?;
-    let whole = WholeFile {
+    let mut whole = WholeFile {
         file: &file,
         listing: &listing,
         settings: &settings,
@@ -45,7 +46,7 @@ where
         inputs: &inputs,
         out,
     };
-    let (counts, written) = match judged_then_written(alloc, &whole, &mut named) {
+    let (counts, written) = match judged_then_written(alloc, &mut whole, &mut named) {
         Ok(written) => written,
         Err(end) => return Err(ending_of(end, recording, out)),
     };

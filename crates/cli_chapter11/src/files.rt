@@ -6,11 +6,11 @@ use rec_reader::Reader;
 use rec_words::{FileSettings, setup_of};
 use std::alloc::Global;
 use std::fs::{self, OpenFile};
-use std::io::BufReader;
+use std::io::{self, BufReader, Read};
 use std::rt::Files;
 
 /// How many bytes of a recording are read at once.
-const PIECE: usize = 65_536;
+pub(crate) const PIECE: usize = 65_536;
 
 /// How many bytes SETUP may have.
 const MAX_SETUP: u64 = 16_777_216;
@@ -53,9 +53,18 @@ pub(crate) fn setup_in<'a, R: AllocGlobal + Files>(
         inputs.add(file)?;
     }
     inputs.refuse_input(rt, out)?;
-    let read = opened.and_then(|mut file| bounded_text(rt.alloc(), MAX_SETUP, &mut file));
+    settings_in(rt.alloc(), setup, opened)
+}
+
+/// What the SETUP says that was opened.
+pub(crate) fn settings_in<'a, F: Read + Drop>(
+    alloc: Global,
+    setup: &'a str,
+    opened: io::Result<F>,
+) -> Result<FileSettings, CommandEnding<'a>> {
+    let read = opened.and_then(|mut file| bounded_text(alloc, MAX_SETUP, &mut file));
     let text = read.map_err(|error| CommandEnding::of_io(setup, &error))?;
-    Ok(setup_of(rt.alloc(), text.as_str())?)
+    Ok(setup_of(alloc, text.as_str())?)
 }
 
 /// The packets of a recording that is read to its end, by channels.

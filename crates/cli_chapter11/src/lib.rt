@@ -1,12 +1,16 @@
-//! The command that writes a whole Chapter 11 file (IRIG 106-17 Chapter 11) of a recording.
+//! The commands that write a whole Chapter 11 file (IRIG 106-17 Chapter 11) of a recording, and its packets as a
+//! stream.
 #![tactic(auto)]
 
 mod channels;
 mod command;
 mod discard;
 mod files;
+mod passes;
+mod stream;
 mod summed;
 mod uncreated;
 mod writing;
 
 pub use command::write_chapter11;
+pub use stream::stream_chapter11;

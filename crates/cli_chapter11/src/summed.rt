@@ -36,9 +36,20 @@ pub(crate) struct Summed<W: Drop> {
 }
 
 impl<W: Write + Drop> Write for Summed<W> {
+    ghost use Rattle.std.specs.Prelude.{◌≡◌, IfOk, OnErr, take};
+    ghost use Rattle.std.specs.Io.{WritesAtMost};
+    ghost use Rattle.std.specs.Io.KnownBytes.{WriteAppends};
+    ghost use Rattle.cli_chapter11.specs.ByteSum.{sum_behind};
+
     ghost contents = { λ w. W.contents w.out };
 
-    fn write(&mut self, buf: &[u8]) -> io::Result<usize> {
+    fn write(&mut self, buf: &[u8]) -> io::Result<usize>
+        ensures bound { WritesAtMost result buf.now }
+        ensures bytes { WriteAppends (W.contents self.old.out) (W.contents self.new.out) result buf.now }
+        ensures summed { IfOk result (λ n. self.new.sum.sum
+            ≡ sum_behind self.old.sum.sum (take n buf.now)) }
+        ensures same { OnErr result (self.new.sum ≡ self.old.sum) }
+    {
         let count = self.out.write(buf)?;
         self.sum = self.sum.with(&buf[..count]);
         Ok(count)

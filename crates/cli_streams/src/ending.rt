@@ -13,6 +13,7 @@ use bpf_dis::DisFault;
 use bpf_insn::ListingFault;
 use bpf_verify::Refused;
 use rec_reader::{AuditFault, ReadEnd, ReadFaultKind};
+use rec_stream::StreamRefusal;
 use rec_whole::WholeRefusal;
 use rec_words::{SettingsFault, SetupFault};
 use std::alloc::{AllocError, AllocFailed, Global};
@@ -67,6 +68,9 @@ pub enum CommandEnding<'a> {
     /// A recording can't be a whole file.
     #[error("{0}\n")]
     Whole(#[from] WholeRefusal),
+    /// A recording goes out no further as a stream, of which standard output has the packets ahead.
+    #[error("{0}\n")]
+    Stream(#[from] StreamRefusal),
     /// A line of a script is refused; its number.
     #[error("script line {0}\n")]
     Script(u64),
@@ -181,7 +185,7 @@ impl<'a> CommandEnding<'a> {
             | CommandEnding::Reading(_) => REFUSED,
             CommandEnding::Listing(_) | CommandEnding::Refused(_) | CommandEnding::View(_) =>
                 REFUSED,
-            CommandEnding::Recording(_) | CommandEnding::Told => REFUSED,
+            CommandEnding::Recording(_) | CommandEnding::Stream(_) | CommandEnding::Told => REFUSED,
             CommandEnding::Audit(_) | CommandEnding::Script(_) | CommandEnding::Whole(_) => REFUSED,
         }
     }

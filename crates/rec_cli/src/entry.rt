@@ -3,7 +3,7 @@
 ghost use Rattle.std.specs.Prelude.{◌≡◌, ◌<◌, IfSome, length};
 ghost use Rattle.cli_filters.specs.Lines.{AnswersLines};
 
-use cli_chapter11::write_chapter11;
+use cli_chapter11::{stream_chapter11, write_chapter11};
 use cli_filters::{answer_lines, assemble_file, disassemble_file, run_file, verify_file};
 use cli_reading::{
     audit_recording, export_frames, extract_frames, list_packets, upgrade_recording,
@@ -37,6 +37,9 @@ where
     ensures lines { length words.now ≡ 0 → result ≡ 0 → IfSome (I.remaining input) (λ bytes.
         AnswersLines bytes (O.contents output.old) (O.contents output.new)) }
 {
+    if let Some(setup) = stream_setup(words) {
+        return stream(rt, setup, input, output, errors);
+    }
     let shared = Mutex::new(errors);
     let answer = if words.is_empty() {
         let mut input = input;
@@ -47,6 +50,36 @@ where
     match answer {
         Ok(()) => ANSWERED,
         Err(ending) => ending.report(rt.alloc(), output, &mut shared.into_inner()),
+    }
+}
+
+/// SETUP, where the words are `chapter11 --stream SETUP`, which `clap` doesn't read. SETUP doesn't begin as an option.
+fn stream_setup(words: &[String]) -> Option<&str>
+    ensures { IfSome result (λ _. length words.now ≡ 3) }
+{
+    let [command, option, setup] = words else {
+        return None;
+    };
+    if command.as_str() == "chapter11" && option.as_str() == "--stream" && !setup.starts_with('-') {
+        Some(setup.as_str())
+    } else {
+        None
+    }
+}
+
+/// Writes a recording as a stream, and gives the exit status.
+fn stream<R: AllocGlobal + Files, I: Read + Drop, O: Write, E: Write + Drop>(
+    rt: &R,
+    setup: &str,
+    input: I,
+    output: &mut O,
+    errors: E,
+) -> u8 {
+    let mut input = input;
+    let mut errors = errors;
+    match stream_chapter11(rt, setup, &mut input, output, &mut errors) {
+        Ok(()) => ANSWERED,
+        Err(ending) => ending.report(rt.alloc(), output, &mut errors),
     }
 }
 

@@ -113,15 +113,15 @@ late_body tick ahead count bytes left rest piece frame built body had on =
 
 -- ---- the part
 
-ends_by : (tick : ℕ) (ahead next : PieceSoFar) (count : ℕ) (bytes : List ℕ) (left : ℕ) (rest : List ℕ) (piece : PieceSoFar)
+ends_by : (tick place : ℕ) (ahead next : PieceSoFar) (count : ℕ) (bytes : List ℕ) (left : ℕ) (rest : List ℕ) (piece : PieceSoFar)
     (built : List ReadFrameData) (part : PartTaken) (had : IsGoing tick ahead count bytes left rest piece built)
     → IsPartOf tick ahead (first_reads count bytes) had.taken next
-    → owned_data part.piece ≡ OfFrames built → part.count ≡ left → part.len ≡ length rest → part.ahead ≡ next
-    → IsPartTaken tick ahead count bytes part
-ends_by tick ahead next count bytes left rest piece built part had is whole c l a = record {
+    → owned_data part.piece ≡ OfFrames place built → part.count ≡ left → part.len ≡ length rest → part.ahead ≡ next
+    → IsPartTaken tick place ahead count bytes part
+ends_by tick place ahead next count bytes left rest piece built part had is whole c l a = record {
   taken = had.taken;
   is_part = subst (λ p. IsPartOf tick ahead (first_reads count bytes) had.taken p) (sym a) is;
-  piece = whole ∙ ap OfFrames had.built_are;
+  piece = whole ∙ ap (OfFrames place) had.built_are;
   within = omega (arith, l, ap length had.end, length-drop (length bytes - length rest) bytes);
   left = ap (λ n. first_reads n (drop (length bytes - part.len) bytes)) c
       ∙ ap (λ n. first_reads left (drop (length bytes - n) bytes)) l ∙ ap (first_reads left) (sym had.end) ∙ had.left_are;

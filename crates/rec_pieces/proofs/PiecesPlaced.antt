@@ -27,18 +27,18 @@ use Rattle.rec_pieces.proofs.PlacedPackets.{IsRead, first_is_read}
 
 -- ---- one packet
 
-same_pieces : (kind : PieceKind) (c d : ℕ) (xs ys : List ℕ) → c ≡ d → xs ≡ ys → pieces_of kind c xs ≡ pieces_of kind d ys
-same_pieces kind c d xs ys ec ex = ap (λ n. pieces_of kind n xs) ec ∙ ap (pieces_of kind d) ex
+same_pieces : (kind : PieceKind) (place c d : ℕ) (xs ys : List ℕ) → c ≡ d → xs ≡ ys → pieces_of kind place c xs ≡ pieces_of kind place d ys
+same_pieces kind place c d xs ys ec ex = ap (λ n. pieces_of kind place n xs) ec ∙ ap (pieces_of kind place d) ex
 
 named_there : (channel at : ℕ) (bytes : List ℕ) (named : Option (ℕ × PieceKind)) (header : HeaderData) (held : List ℕ)
     → header_from bytes at ≡ header → data_from bytes at ≡ held
-    → flat_map (pieces_at bytes) (entry_named channel at named) ≡ pieces_named channel named header.counter held
+    → flat_map (pieces_at bytes) (entry_named channel at named) ≡ pieces_named channel named at header.counter held
 named_there channel at bytes None header held h d = refl
 named_there channel at bytes (Some (named, kind)) header held h d = here (named == channel)
   where
     here : (is : Bool) → flat_map (pieces_at bytes) (if is then record { at = at; kind = kind } ∷ [] else [])
-        ≡ (if is then pieces_of kind header.counter held else [])
-    here true = append-nil _ ∙ same_pieces kind _ _ _ _ (ap (λ (x : HeaderData). x.counter) h) d
+        ≡ (if is then pieces_of kind at header.counter held else [])
+    here true = append-nil _ ∙ same_pieces kind at _ _ _ _ (ap (λ (x : HeaderData). x.counter) h) d
     here false = refl
 
 packet_there : (channel : ℕ) (bytes : List ℕ) (packet : PacketData) → IsRead packet (drop packet.at bytes)
@@ -77,41 +77,42 @@ joined : (pieces : List FilePiece) → joined_frames (map frames_of_piece pieces
 joined [] = refl
 joined (p ∷ ps) = ap (λ l. frames_of_piece p ++ l) (joined ps)
 
-frames_again : (frames : List ReadFrameData) → flat_map frames_of_piece (frames_pieces frames) ≡ frames
-frames_again frames = sym (joined (frames_pieces frames)) ∙ (pieces_cut frames).whole
+frames_again : (place : ℕ) (frames : List ReadFrameData) → flat_map frames_of_piece (frames_pieces place frames) ≡ frames
+frames_again place frames = sym (joined (frames_pieces place frames)) ∙ (pieces_cut place frames).whole
 
-no_frames : (is uncounted : Bool) (counter : ℕ) (bytes : List ℕ)
-    → flat_map frames_of_piece (if is then pieces_of (if uncounted then Uncounted else Record) counter bytes else []) ≡ []
-no_frames true true counter bytes = refl
-no_frames true false counter bytes = refl
-no_frames false uncounted counter bytes = refl
+no_frames : (is uncounted : Bool) (place counter : ℕ) (bytes : List ℕ)
+    → flat_map frames_of_piece (if is then pieces_of (if uncounted then Uncounted else Record) place counter bytes else []) ≡ []
+no_frames true true place counter bytes = refl
+no_frames true false place counter bytes = refl
+no_frames false uncounted place counter bytes = refl
 
 either_empty : (is : Bool) → ◌≡◌ {A = List ReadFrameData} [] (if is then [] else [])
 either_empty true = refl
 either_empty false = refl
 
-of_frames : (is : Bool) (frames : List ReadFrameData) → flat_map frames_of_piece (if is then frames_pieces frames else []) ≡ (if is then frames else [])
-of_frames true frames = frames_again frames
-of_frames false frames = refl
+of_frames : (place : ℕ) (is : Bool) (frames : List ReadFrameData)
+    → flat_map frames_of_piece (if is then frames_pieces place frames else []) ≡ (if is then frames else [])
+of_frames place true frames = frames_again place frames
+of_frames place false frames = refl
 
 -- the frames of channel 0 are none of another's
 of_channel_0 : (channel own : ℕ) (frames : List ReadFrameData) → channel ≢ 0 → (own == 0) ≡ true → [] ≡ (if own == channel then frames else [])
 of_channel_0 channel own frames some none =
     ap (λ b. if b then frames else []) (sym (ne_eqb own channel (λ e. some (sym e ∙ eqb-true own 0 none))))
 
-frames_named : (channel own counter : ℕ) (what : What) (bytes : List ℕ) → channel ≢ 0
-    → flat_map frames_of_piece (pieces_named channel (named_by own what) counter bytes) ≡ (if own == channel then frames_held what bytes else [])
-frames_named channel own counter (HoldsFrames count) bytes some = elim (cases_Bool (own == 0)) as (λ _.
-    flat_map frames_of_piece (pieces_named channel (named_by own (HoldsFrames count)) counter bytes)
+frames_named : (channel own place counter : ℕ) (what : What) (bytes : List ℕ) → channel ≢ 0
+    → flat_map frames_of_piece (pieces_named channel (named_by own what) place counter bytes) ≡ (if own == channel then frames_held what bytes else [])
+frames_named channel own place counter (HoldsFrames count) bytes some = elim (cases_Bool (own == 0)) as (λ _.
+    flat_map frames_of_piece (pieces_named channel (named_by own (HoldsFrames count)) place counter bytes)
     ≡ (if own == channel then said_frames bytes else [])) [
       | inl none ↦ rw none (of_channel_0 channel own (said_frames bytes) some none)
-      | inr more ↦ rw more (of_frames (own == channel) (said_frames bytes))
+      | inr more ↦ rw more (of_frames place (own == channel) (said_frames bytes))
     ]
-frames_named channel own counter (Program named version first count) bytes some =
-    no_frames (named == channel) false counter bytes ∙ either_empty (own == channel)
-frames_named channel own counter (End named offered kept) bytes some =
-    no_frames (named == channel) (offered == 0) counter bytes ∙ either_empty (own == channel)
-frames_named channel own counter Other bytes some = either_empty (own == channel)
+frames_named channel own place counter (Program named version first count) bytes some =
+    no_frames (named == channel) false place counter bytes ∙ either_empty (own == channel)
+frames_named channel own place counter (End named offered kept) bytes some =
+    no_frames (named == channel) (offered == 0) place counter bytes ∙ either_empty (own == channel)
+frames_named channel own place counter Other bytes some = either_empty (own == channel)
 
 pub frames_in_pieces : (channel : ℕ) (packets : List PacketData) → channel ≢ 0
     → flat_map frames_of_piece (pieces_of_channel channel packets) ≡ channel_frames channel packets
@@ -119,5 +120,5 @@ frames_in_pieces channel [] some = refl
 frames_in_pieces channel (p ∷ ps) some =
     flat_map-append frames_of_piece (pieces_of_packet channel p) (pieces_of_channel channel ps)
     ∙ ap (λ l. l ++ flat_map frames_of_piece (pieces_of_channel channel ps))
-    (frames_named channel p.header.channel p.header.counter p.what (data_in p.header p.body) some)
+    (frames_named channel p.header.channel p.at p.header.counter p.what (data_in p.header p.body) some)
     ∙ ap (λ l. (if p.header.channel == channel then packet_frames p else []) ++ l) (frames_in_pieces channel ps some)

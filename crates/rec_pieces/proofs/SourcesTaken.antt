@@ -5,7 +5,7 @@ use Rattle.std.specs.Prelude.{IfSome}
 use Rattle.std.specs.List.{flat_map}
 use Rattle.std.proofs.lemmas.List.{drop_all}
 use Rattle.ch11_merge.specs.declared.source.Head.TheVariants.{End}
-use Rattle.ch11_merge.specs.Merging.{FilePiece, head_of, TakesPart, part_from}
+use Rattle.ch11_merge.specs.Merging.{FilePiece, StandsFirst, head_of, TakesPart, part_from}
 use Rattle.rec_pieces.specs.declared.entry.PieceEntry.{PieceEntry}
 use Rattle.rec_pieces.specs.declared.hand.InHand.{InHand}
 use Rattle.rec_pieces.specs.Entries.{pieces_at}
@@ -44,3 +44,14 @@ pub some_in_source : (held : Option (List ℕ)) (entries : List PieceEntry) (nex
     → stands_by (source_state held entries next slot).left (source_state held entries next slot).head ≢ End → hand_pieces hand ≢ []
 some_in_source held entries next slot hand is fetched some none =
     some (ends_there held entries next slot fetched (ap pieces_held (sym is) ∙ none))
+
+first_ahead : (pieces rest : List FilePiece) (place : ℕ) → StandsFirst pieces place → StandsFirst (pieces ++ rest) place
+first_ahead [] rest place first = absurd first
+first_ahead (p ∷ ps) rest place first = first
+
+-- its first piece is of the packet in hand
+pub first_in_source : (held : Option (List ℕ)) (entries : List PieceEntry) (next place : ℕ) (slot : Option InHand) (hand : InHand) → Some hand ≡ slot
+    → StandsFirst (hand_pieces hand) place → IfSome (source_state held entries next slot).left (λ pieces. StandsFirst pieces place)
+first_in_source None entries next place slot hand is first = tt
+first_in_source (Some bytes) entries next place slot hand is first =
+    first_ahead (pieces_held slot) (pieces_to_come entries next bytes) place (subst (λ s. StandsFirst (pieces_held s) place) is first)

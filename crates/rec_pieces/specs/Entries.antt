@@ -14,11 +14,11 @@ use Rattle.rec_pieces.specs.declared.entry.PieceKind.{PieceKind}
 use Rattle.rec_pieces.specs.declared.entry.PieceKind.TheVariants.{Frames, Record, Uncounted}
 use Rattle.rec_pieces.specs.declared.entry.PieceEntry.{PieceEntry}
 
--- the pieces of data of this kind, in a packet with this counter
-abbrev pub pieces_of : PieceKind → (counter : ℕ) → List ℕ → List FilePiece
-pieces_of Frames counter bytes = frames_pieces (said_frames bytes)
-pieces_of Record counter bytes = OfRecord (Some counter) bytes ∷ []
-pieces_of Uncounted counter bytes = OfRecord None bytes ∷ []
+-- the pieces of data of this kind, in a packet at this place with this counter
+abbrev pub pieces_of : PieceKind → (place counter : ℕ) → List ℕ → List FilePiece
+pieces_of Frames place counter bytes = frames_pieces place (said_frames bytes)
+pieces_of Record place counter bytes = OfRecord place (Some counter) bytes ∷ []
+pieces_of Uncounted place counter bytes = OfRecord place None bytes ∷ []
 
 -- ---- by the packet
 
@@ -35,14 +35,15 @@ abbrev pub packet_names : PacketData → Option (ℕ × PieceKind)
 packet_names packet = named_by packet.header.channel packet.what
 
 -- the pieces that a packet has of a channel
-abbrev pub pieces_named : (channel : ℕ) → Option (ℕ × PieceKind) → (counter : ℕ) → List ℕ → List FilePiece
-pieces_named channel None counter bytes = []
-pieces_named channel (Some (named, kind)) counter bytes =
-    if named == channel then pieces_of kind counter bytes else []
+abbrev pub pieces_named : (channel : ℕ) → Option (ℕ × PieceKind) → (place counter : ℕ) → List ℕ
+    → List FilePiece
+pieces_named channel None place counter bytes = []
+pieces_named channel (Some (named, kind)) place counter bytes =
+    if named == channel then pieces_of kind place counter bytes else []
 
 abbrev pub pieces_of_packet : (channel : ℕ) → PacketData → List FilePiece
 pieces_of_packet channel packet =
-    pieces_named channel (packet_names packet) packet.header.counter
+    pieces_named channel (packet_names packet) packet.at packet.header.counter
     (data_in packet.header packet.body)
 
 -- the pieces of a channel, in the order of the recording
@@ -61,4 +62,4 @@ data_from bytes at = data_in (header_from bytes at) (drop HEADER_LEN (drop at by
 -- the pieces of the packet that an entry names in these bytes
 abbrev pub pieces_at : List ℕ → PieceEntry → List FilePiece
 pieces_at bytes entry =
-    pieces_of entry.kind (header_from bytes entry.at).counter (data_from bytes entry.at)
+    pieces_of entry.kind entry.at (header_from bytes entry.at).counter (data_from bytes entry.at)

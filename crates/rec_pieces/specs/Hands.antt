@@ -6,9 +6,9 @@ use Rattle.ch11_merge.specs.Merging.{FilePiece}
 use Rattle.ch11_merge.specs.Parts.{pieces_left}
 use Rattle.rec_pieces.specs.BodiesSoFar.{IsBodySoFar}
 
--- its pieces, of so many frames from this place of its data on
-unfoldable pub pieces_in_hand : (ahead : PieceSoFar) → (count at : ℕ) → List ℕ → List FilePiece
-pieces_in_hand ahead count at bytes = pieces_left ahead (first_reads count (drop at bytes))
+-- its pieces, of so many frames from this byte of its data on
+unfoldable pub pieces_in_hand : (place : ℕ) → (ahead : PieceSoFar) → (count at : ℕ) → List ℕ → List FilePiece
+pieces_in_hand place ahead count at bytes = pieces_left place ahead (first_reads count (drop at bytes))
 
 -- so many frames stand there
 pub record IsInHand (ahead : PieceSoFar) (count at : ℕ) (bytes : List ℕ) : Type 0 where

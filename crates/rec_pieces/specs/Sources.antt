@@ -14,7 +14,7 @@ use Rattle.rec_pieces.specs.Entries.{pieces_at}
 
 abbrev pub hand_pieces : InHand → List FilePiece
 hand_pieces (Frames frames) = frames
-hand_pieces (Record place body) = OfRecord body.counter body.body ∷ []
+hand_pieces (Record place body) = OfRecord place body.counter body.body ∷ []
 
 abbrev pub pieces_held : Option InHand → List FilePiece
 pieces_held None = []

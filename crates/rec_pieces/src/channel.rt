@@ -80,6 +80,13 @@ impl<'f, F: PlacedRead> PieceSource for ChannelPieces<'f, F> {
         }
     }
 
+    fn place(&self) -> u64 {
+        match &self.hand {
+            Some(hand) => hand.place(),
+            None => unreachable!(),
+        }
+    }
+
     fn take(&mut self, tick: u64) -> Result<OwnedPiece, PieceFault> {
         let Some(hand) = self.hand.take() else {
             unreachable!()

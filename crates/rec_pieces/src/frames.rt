@@ -19,7 +19,7 @@ const BODY_WORD_LEN: usize = 4;
 
 /// What is left of a packet of frames.
 #[derive(Debug, Drop)]
-pub(crate) struct FramesInHand {
+pub struct FramesInHand {
     packet: OwnedPacket,
     /// Where the packet stands in the recording.
     place: u64,
@@ -40,17 +40,18 @@ impl Model for FramesInHand {
     ghost Value = { List FilePiece };
 
     ghost view = { λ f.
-        pieces_in_hand f.ahead f.count f.at (data_in f.packet.header f.packet.body) };
+        pieces_in_hand f.place f.ahead f.count f.at (data_in f.packet.header f.packet.body) };
 
     ghost invariant = { λ f.
         IsInHand f.ahead f.count f.at (data_in f.packet.header f.packet.body) };
 }
 
 impl FramesInHand {
-    ghost use Rattle.std.specs.Prelude.{◌≡◌, ◌≢◌, ◌↔◌, false, [], IsTrue, IfSome, IfNone, IfOk};
+    ghost use Rattle.std.specs.Prelude.{ℕ, ◌≡◌, ◌≢◌, ◌<◌, ◌^◌, ◌↔◌, false, [], IsTrue, IfSome, IfNone, IfOk};
     ghost use Rattle.ch11_packet.specs.declared.class.What.{What};
     ghost use Rattle.ch11_packet.specs.Classes.{data_in, said_frames};
-    ghost use Rattle.ch11_merge.specs.Merging.{head_of, is_due, TakesPart};
+    ghost use Rattle.ch11_merge.specs.declared.source.Head.TheVariants.{At};
+    ghost use Rattle.ch11_merge.specs.Merging.{StandsFirst, head_of, is_due, TakesPart};
     ghost use Rattle.ch11_merge.specs.Parts.{frames_pieces};
     ghost use Rattle.ch11_file.specs.OwnedPieces.{owned_data};
 
@@ -58,7 +59,7 @@ impl FramesInHand {
     pub(crate) fn of(packet: OwnedPacket, place: u64, count: u16) -> Option<FramesInHand>
         requires { packet.what ≡ What.Frames count }
         ensures some { IfSome result (λ frames.
-            frames ≡ frames_pieces (said_frames (data_in packet.header packet.body))) }
+            frames ≡ frames_pieces place (said_frames (data_in packet.header packet.body))) }
         ensures more { IfSome result (λ frames. frames ≢ []) }
         ensures none { IfNone result (said_frames (data_in packet.header packet.body) ≡ []) }
     {
@@ -74,8 +75,9 @@ impl FramesInHand {
     }
 
     /// Where its next piece stands.
-    pub(crate) fn head(&self) -> Head
-        ensures { result ≡ head_of self.now }
+    pub fn head(&self) -> Head
+        ensures is { result ≡ head_of self.now }
+        ensures fits { (counter : ℕ) → result ≡ At counter → counter < 2 ^ 48 }
     {
         let packet = self.packet.packet();
         match first_frame(self.count, &packet.data()[self.at..]) {
@@ -84,8 +86,16 @@ impl FramesInHand {
         }
     }
 
+    /// Where the packet stands in the recording.
+    pub(crate) fn place(&self) -> u64
+        requires { self.now ≢ [] }
+        ensures { StandsFirst self.now result }
+    {
+        self.place
+    }
+
     /// Takes the next piece, up to the first frame that doesn't lie before the tick.
-    pub(crate) fn take(&mut self, alloc: Global, tick: u64) -> Result<OwnedPiece, AllocError>
+    pub fn take(&mut self, alloc: Global, tick: u64) -> Result<OwnedPiece, AllocError>
         requires some { self.old ≢ [] }
         requires early { is_due tick (head_of self.old) ≡ false }
         ensures { IfOk result (λ piece. TakesPart tick self.old (owned_data piece) self.new) }
@@ -101,7 +111,7 @@ impl FramesInHand {
     }
 
     /// Whether no frame is left.
-    pub(crate) fn is_over(&self) -> bool
+    pub fn is_over(&self) -> bool
         ensures { IsTrue result ↔ (self.now ≡ []) }
     {
         self.count == 0

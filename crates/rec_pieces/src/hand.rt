@@ -19,7 +19,7 @@ const TOO_LONG: usize = 1 << 31;
 
 /// A packet whose pieces go out next.
 #[derive(Debug, Drop)]
-pub(crate) enum InHand {
+pub enum InHand {
     /// What is left of its frames.
     Frames(FramesInHand),
     /// A record, of the packet at a place.
@@ -27,13 +27,15 @@ pub(crate) enum InHand {
 }
 
 impl InHand {
-    ghost use Rattle.std.specs.Prelude.{◌≡◌};
-    ghost use Rattle.ch11_merge.specs.Merging.{head_of};
+    ghost use Rattle.std.specs.Prelude.{ℕ, ◌≡◌, ◌≢◌, ◌<◌, ◌^◌, []};
+    ghost use Rattle.ch11_merge.specs.declared.source.Head.TheVariants.{At};
+    ghost use Rattle.ch11_merge.specs.Merging.{StandsFirst, head_of};
     ghost use Rattle.rec_pieces.specs.Sources.{hand_pieces};
 
     /// Where its next piece stands.
-    pub(crate) fn head(&self) -> Head
-        ensures { result ≡ head_of (hand_pieces self.now) }
+    pub fn head(&self) -> Head
+        ensures is { result ≡ head_of (hand_pieces self.now) }
+        ensures fits { (counter : ℕ) → result ≡ At counter → counter < 2 ^ 48 }
     {
         match self {
             InHand::Frames(frames) => frames.head(),
@@ -43,16 +45,28 @@ impl InHand {
             },
         }
     }
+
+    /// Where it stands in the recording.
+    pub(crate) fn place(&self) -> u64
+        requires { hand_pieces self.now ≢ [] }
+        ensures { StandsFirst (hand_pieces self.now) result }
+    {
+        match self {
+            InHand::Frames(frames) => frames.place(),
+            InHand::Record { place, .. } => *place,
+        }
+    }
 }
 
 /// The packet that an entry names, in hand: `None` if it has no piece.
-pub(crate) fn in_hand(
+pub fn in_hand(
     alloc: Global,
     entry: PieceEntry,
     packet: OwnedPacket,
 ) -> Result<Option<InHand>, PieceFault>
     ensures pieces { IfOk result (λ hand. pieces_held hand
-        ≡ pieces_of entry.kind packet.header.counter (data_in packet.header packet.body)) }
+        ≡ pieces_of entry.kind entry.at packet.header.counter
+        (data_in packet.header packet.body)) }
     ensures some { IfOk result (λ hand. IfSome hand (λ hand. hand_pieces hand ≢ [])) }
 {
     let counter = packet.packet().header.counter;
@@ -83,7 +97,7 @@ fn record_in_hand(
 ) -> Result<Option<InHand>, PieceFault>
     requires { IfSome counter (λ counter. counter ≡ packet.now.header.counter) }
     ensures pieces { IfOk result (λ hand. pieces_held hand
-        ≡ OfRecord counter (data_in packet.now.header packet.now.body) ∷ []) }
+        ≡ OfRecord place counter (data_in packet.now.header packet.now.body) ∷ []) }
     ensures some { IfOk result (λ hand. IfSome hand (λ hand. hand_pieces hand ≢ [])) }
 {
     let packet = packet.packet();

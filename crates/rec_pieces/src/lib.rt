@@ -16,11 +16,13 @@ mod upcoming;
 
 pub use channel::ChannelPieces;
 pub use entry::{PieceEntry, PieceKind};
+pub use frames::FramesInHand;
+pub use hand::{InHand, in_hand};
 pub use laws::{
     listed_channels_are_those_of_packets, pieces_hold_the_frames_of_a_channel,
     pieces_of_places_are_those_of_packets,
 };
-pub use listing::PieceListing;
+pub use listing::{PieceListing, least_counter, names};
 pub use placed::{FileAt, PlacedRead};
 pub use reading::{ListingEnd, list_recording};
 pub use sources::channel_sources;

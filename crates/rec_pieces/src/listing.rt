@@ -1,6 +1,6 @@
 //! What the packets of a recording are in a whole file, by channels.
 
-ghost use Rattle.std.specs.Prelude.{ℕ, ◌≡◌, ◌==◌, ◌∷◌, ◌++◌, [], map, Some, if◌then◌else◌, OnOk};
+ghost use Rattle.std.specs.Prelude.{ℕ, ◌≡◌, ◌==◌, ◌<◌, ◌^◌, ◌∷◌, ◌++◌, [], map, Some, if◌then◌else◌, IfSome, OnOk};
 ghost use Rattle.std.specs.Ordering.{nat_cmp};
 ghost use Rattle.std.specs.BTreeMap.{get};
 ghost use Rattle.rec_reader.specs.ChannelFrames.{packet_frames};
@@ -106,7 +106,7 @@ impl PieceListing {
 }
 
 /// The channel that a packet names, and what it is in a whole file: `None` if it is of any other kind.
-fn names(packet: &Packet<'_>) -> Option<(u16, PieceKind)>
+pub fn names(packet: &Packet<'_>) -> Option<(u16, PieceKind)>
     ensures { result ≡ packet_names (packet_data packet.now) }
 {
     match packet.what {
@@ -131,9 +131,10 @@ fn names(packet: &Packet<'_>) -> Option<(u16, PieceKind)>
 }
 
 /// The least counter of what a packet holds, which names a channel.
-fn least_counter(packet: &Packet<'_>, channel: u16, kind: PieceKind) -> Option<u64>
+pub fn least_counter(packet: &Packet<'_>, channel: u16, kind: PieceKind) -> Option<u64>
     requires { packet_names (packet_data packet.now) ≡ Some (channel, kind) }
-    ensures { result ≡ least_of (packet_counters (packet_data packet.now)) }
+    ensures is { result ≡ least_of (packet_counters (packet_data packet.now)) }
+    ensures fits { IfSome result (λ counter. counter < 2 ^ 48) }
 {
     match kind {
         PieceKind::Frames => least_of_frames(packet),
@@ -144,7 +145,8 @@ fn least_counter(packet: &Packet<'_>, channel: u16, kind: PieceKind) -> Option<u
 
 /// The least counter of a packet's frames.
 fn least_of_frames(packet: &Packet<'_>) -> Option<u64>
-    ensures { result ≡ least_of (map frame_counter (packet_frames (packet_data packet.now))) }
+    ensures is { result ≡ least_of (map frame_counter (packet_frames (packet_data packet.now))) }
+    ensures fits { IfSome result (λ counter. counter < 2 ^ 48) }
 {
     let Some(frames) = packet.frames() else {
         return None;

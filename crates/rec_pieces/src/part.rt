@@ -41,7 +41,7 @@ pub(crate) fn take_part(
     requires held { ∥ AreFrames count bytes.now ∥₁ }
     requires some { 0 < count }
     requires body { IsBodySoFar ahead }
-    ensures part { IfOk result (IsPartTaken tick ahead count bytes.now) }
+    ensures part { IfOk result (IsPartTaken tick place ahead count bytes.now) }
     ensures held { IfOk result (λ part.
         ∥ AreFrames part.count (drop (length bytes.now - part.len) bytes.now) ∥₁) }
     ensures body { IfOk result (λ part. IsBodySoFar part.ahead) }
@@ -79,7 +79,7 @@ fn sealed(
     ahead: PieceSoFar,
 ) -> PartTaken
     requires { builder ≢ [] }
-    ensures piece { owned_data result.piece ≡ OfFrames builder }
+    ensures piece { owned_data result.piece ≡ OfFrames place builder }
     ensures left { (result.count ≡ count) × (result.len ≡ length rest.now)
         × (result.ahead ≡ ahead) }
 {

@@ -8,16 +8,13 @@ use crate::listing::PieceListing;
 use rec_reader::{ReadEnd, Reader};
 use std::alloc::{AllocError, Global};
 use std::io::Read;
-use thiserror::Error;
 
 /// Why a recording isn't listed.
-#[derive(Clone, Copy, Debug, PartialEq, Eq, Error)]
+#[derive(Clone, Copy, Debug, PartialEq, Eq)]
 pub enum ListingEnd {
     /// The recording isn't read to its end.
-    #[error("{0}")]
     Reading(ReadEnd),
     /// Out of memory.
-    #[error("memory")]
     Memory,
 }
 

@@ -20,13 +20,16 @@ use std::mem;
 /// The most bytes for which room is taken before they have come.
 const STEP: usize = 65_536;
 
+/// The most bytes for which room is kept from one packet to the next: no packet of frames has as many.
+const MAX_SPARE: usize = 1_048_576;
+
 /// Reads a recording packet by packet, in whatever pieces the input gives its bytes, and takes no
 /// byte past a packet before that packet is answered. It keeps no packet that it gave.
 ///
 /// It reads a packet's header and its body apart, so give it a buffered input over a file or a
 /// device. Memory is taken for the packet that is read, and follows the bytes that have come: there
 /// is never room for more than 65,536 bytes beyond them, whatever length a header says. A packet that
-/// is given back has room for the next one.
+/// is given back has room for the next one; of one with room for more than 1,048,576 bytes none is kept.
 #[derive(Debug, Drop)]
 pub struct Reader<R: Read> {
     alloc: Global,
@@ -38,11 +41,16 @@ pub struct Reader<R: Read> {
 }
 
 impl<R: Read> Model for Reader<R> {
+    ghost use Rattle.std.specs.Prelude.{◌≤◌};
+    ghost use Rattle.std.specs.Vec.{vec_capacity};
+    ghost use Rattle.rec_reader.specs.declared.stream.TheConstants.{MAX_SPARE};
     ghost use Rattle.rec_reader.specs.Readers.{ReaderState};
 
     ghost Value = { ReaderState };
 
     ghost view = { λ r. record { left = R.remaining r.input; at = r.at; ended = r.ended } };
+
+    ghost invariant = { λ r. vec_capacity r.spare ≤ MAX_SPARE };
 }
 
 impl<R: Read> Reader<R> {
@@ -67,11 +75,14 @@ impl<R: Read> Reader<R> {
         }
     }
 
-    /// Takes a packet back, whose memory the next one may have.
+    /// Takes a packet back, whose memory the next one may have, unless it is much.
     pub fn give_back(&mut self, packet: OwnedPacket)
         ensures same { self.new ≡ self.old }
     {
-        self.spare = packet.into_body();
+        let body = packet.into_body();
+        if body.capacity() <= MAX_SPARE {
+            self.spare = body;
+        }
     }
 
     /// The next packet: `None` at the recording's end, and from then on.

@@ -134,26 +134,27 @@ body_len frames = omega (arith, many_bytes frames, length-copies frames)
 held_joined : (pieces : List FilePiece) → AllByRecursion IsOfFrames pieces
     → flat_map held_in pieces ≡ map HeldFrame (joined_frames (map frames_of_piece pieces))
 held_joined [] of = refl
-held_joined (OfFrames fs ∷ ps) of =
+held_joined (OfFrames place fs ∷ ps) of =
     ap (λ l. map HeldFrame fs ++ l) (held_joined ps of.1) ∙ sym (map-append HeldFrame fs (joined_frames (map frames_of_piece ps)))
-held_joined (OfRecord counter body ∷ ps) of = absurd of.0
+held_joined (OfRecord place counter body ∷ ps) of = absurd of.0
 
-pub held_pieces : (frames : List ReadFrameData) → flat_map held_in (frames_pieces frames) ≡ map HeldFrame frames
-held_pieces frames = held_joined (frames_pieces frames) (all_of_frames frames) ∙ ap (map HeldFrame) (pieces_cut frames).whole
+pub held_pieces : (place : ℕ) (frames : List ReadFrameData) → flat_map held_in (frames_pieces place frames) ≡ map HeldFrame frames
+held_pieces place frames = held_joined (frames_pieces place frames) (all_of_frames place frames) ∙ ap (map HeldFrame) (pieces_cut place frames).whole
 
-held_where : (is : Bool) (frames : List ReadFrameData)
-    → flat_map held_in (if is then frames_pieces frames else []) ≡ (if is then map HeldFrame frames else [])
-held_where true frames = held_pieces frames
-held_where false frames = refl
+held_where : (place : ℕ) (is : Bool) (frames : List ReadFrameData)
+    → flat_map held_in (if is then frames_pieces place frames else []) ≡ (if is then map HeldFrame frames else [])
+held_where place true frames = held_pieces place frames
+held_where place false frames = refl
 
-frames_held : (channel own counter : ℕ) (count : ℕ) (bytes : List ℕ) (frames : List ReadFrameData) → own ≢ 0 → said_frames bytes ≡ frames
-    → flat_map held_in (pieces_named channel (named_by own (HoldsFrames count)) counter bytes) ≡ (if own == channel then map HeldFrame frames else [])
-frames_held channel own counter count bytes frames some said =
-    rw (ne_eqb own 0 some) (ap (λ fs. flat_map held_in (if own == channel then frames_pieces fs else [])) said ∙ held_where (own == channel) frames)
+frames_held : (channel own place counter : ℕ) (count : ℕ) (bytes : List ℕ) (frames : List ReadFrameData) → own ≢ 0 → said_frames bytes ≡ frames
+    → flat_map held_in (pieces_named channel (named_by own (HoldsFrames count)) place counter bytes) ≡ (if own == channel then map HeldFrame frames else [])
+frames_held channel own place counter count bytes frames some said =
+    rw (ne_eqb own 0 some) (ap (λ fs. flat_map held_in (if own == channel then frames_pieces place fs else [])) said ∙ held_where place (own == channel) frames)
 
-few_frames : (b : FileBlock) (channel : ℕ) (frames : List ReadFrameData) → b.content ≡ PieceBlock channel (OfFrames frames) → IsHeader (block_header b)
+few_frames : (b : FileBlock) (channel place : ℕ) (frames : List ReadFrameData) → b.content ≡ PieceBlock channel (OfFrames place frames)
+    → IsHeader (block_header b)
     → length frames < 2 ^ 16
-few_frames b channel frames is header =
+few_frames b channel place frames is header =
     let most = header.lengths.most (kind_is b ∙ ap (λ (c : BlockContent). data_type (kind_of c)) is) in
     let long : (block_header b).packet_len ≡ written_len WithSum (length (frames_body frames)) =
     len_is b ∙ ap (λ (c : BlockContent). written_len WithSum (length (block_body c))) is in
@@ -163,13 +164,13 @@ some_frames : (frames : List ReadFrameData) → IsShortPiece frames → length f
 some_frames [] short = absurd short
 some_frames (f ∷ fs) short = λ e. omega (arith, e)
 
-read_frames : (at : ℕ) (b : FileBlock) (channel : ℕ) (frames : List ReadFrameData) → b.content ≡ PieceBlock channel (OfFrames frames)
+read_frames : (at : ℕ) (b : FileBlock) (channel place : ℕ) (frames : List ReadFrameData) → b.content ≡ PieceBlock channel (OfFrames place frames)
     → b.channel ≡ channel → IsHeader (block_header b) → AreReadFrames channel frames
     → IsReadAs at b (read_packet at b (HoldsFrames (length frames)))
-read_frames at b channel frames is own header read =
+read_frames at b channel place frames is own header read =
     let what = HoldsFrames (length frames) in
     let body : block_body b.content ≡ frames_body frames = ap block_body is in
-    let spells = SpellsBody-copied frames (All-from_recursion IsReadFrame frames read.each) (few_frames b channel frames is header) in
+    let spells = SpellsBody-copied frames (All-from_recursion IsReadFrame frames read.each) (few_frames b channel place frames is header) in
     let found : said_frames (data_in (block_header b) (read_packet at b what).body) ≡ frames =
     ap said_frames (data_are at b what ∙ body) ∙ said_by_body frames (frames_body frames) spells in
     let named : (block_header b).channel ≡ channel = channel_is b ∙ own in
@@ -182,7 +183,7 @@ read_frames at b channel frames is own header read =
         subst (SpellsBody frames) (sym body) spells,
         refl,
       );
-      held = λ other. frames_held other (block_header b).channel (block_header b).counter (length frames)
+      held = λ other. frames_held other (block_header b).channel at (block_header b).counter (length frames)
           (data_in (block_header b) (read_packet at b what).body) frames some found
           ∙ ap (λ n. if n == other then map HeldFrame frames else []) named
           ∙ sym (ap (block_held other) is);
@@ -200,39 +201,39 @@ record_class : (header : HeaderData) (bytes : List ℕ) (said : RecordData) → 
 record_class header bytes (OfProgram channel version first insns) says spells = (says, insns, spells, refl)
 record_class header bytes (OfEnd end) says spells = (says, spells)
 
-one_where : (is : Bool) (counter : Option ℕ) (bytes : List ℕ)
-    → flat_map held_in (if is then OfRecord counter bytes ∷ [] else []) ≡ (if is then HeldRecord counter bytes ∷ [] else [])
-one_where true counter bytes = refl
-one_where false counter bytes = refl
+one_where : (place : ℕ) (is : Bool) (counter : Option ℕ) (bytes : List ℕ)
+    → flat_map held_in (if is then OfRecord place counter bytes ∷ [] else []) ≡ (if is then HeldRecord counter bytes ∷ [] else [])
+one_where place true counter bytes = refl
+one_where place false counter bytes = refl
 
-record_held : (channel own counter : ℕ) (said : RecordData) (bytes : List ℕ)
-    → flat_map held_in (pieces_named channel (named_by own (what_of_record said)) counter bytes)
+record_held : (channel own place counter : ℕ) (said : RecordData) (bytes : List ℕ)
+    → flat_map held_in (pieces_named channel (named_by own (what_of_record said)) place counter bytes)
     ≡ (if record_channel said == channel then HeldRecord (record_counter said counter) bytes ∷ [] else [])
-record_held channel own counter (OfProgram named version first insns) bytes = one_where (named == channel) (Some counter) bytes
-record_held channel own counter (OfEnd end) bytes =
-    ap (λ ps. flat_map held_in (if end.channel == channel then ps else [])) (end_counted (end.offered == 0) counter bytes)
-    ∙ one_where (end.channel == channel) (if end.offered == 0 then None else Some counter) bytes
+record_held channel own place counter (OfProgram named version first insns) bytes = one_where place (named == channel) (Some counter) bytes
+record_held channel own place counter (OfEnd end) bytes =
+    ap (λ ps. flat_map held_in (if end.channel == channel then ps else [])) (end_counted (end.offered == 0) place counter bytes)
+    ∙ one_where place (end.channel == channel) (if end.offered == 0 then None else Some counter) bytes
 
-same_counter : (none : Bool) (own counter : ℕ) (held : Option ℕ) (body : List ℕ) → held ≡ (if none then None else Some own)
-    → HasHead (head_of_piece (OfRecord held body)) counter → (if none then None else Some counter) ≡ held
-same_counter true own counter None body is head = refl
-same_counter true own counter (Some n) body is head = absurd (none-some n (sym is))
-same_counter false own counter None body is head = absurd (none-some own is)
-same_counter false own counter (Some n) body is head = ap Some head
+same_counter : (place : ℕ) (none : Bool) (own counter : ℕ) (held : Option ℕ) (body : List ℕ) → held ≡ (if none then None else Some own)
+    → HasHead (head_of_piece (OfRecord place held body)) counter → (if none then None else Some counter) ≡ held
+same_counter place true own counter None body is head = refl
+same_counter place true own counter (Some n) body is head = absurd (none-some n (sym is))
+same_counter place false own counter None body is head = absurd (none-some own is)
+same_counter place false own counter (Some n) body is head = ap Some head
 
-counter_again : (said : RecordData) (own counter : ℕ) (held : Option ℕ) (body : List ℕ) → held ≡ record_counter said own
-    → HasHead (head_of_piece (OfRecord held body)) counter → record_counter said counter ≡ held
-counter_again (OfProgram named version first insns) own counter held body is head = same_counter false own counter held body is head
-counter_again (OfEnd end) own counter held body is head = same_counter (end.offered == 0) own counter held body is head
+counter_again : (place : ℕ) (said : RecordData) (own counter : ℕ) (held : Option ℕ) (body : List ℕ) → held ≡ record_counter said own
+    → HasHead (head_of_piece (OfRecord place held body)) counter → record_counter said counter ≡ held
+counter_again place (OfProgram named version first insns) own counter held body is head = same_counter place false own counter held body is head
+counter_again place (OfEnd end) own counter held body is head = same_counter place (end.offered == 0) own counter held body is head
 
 record_has_no_frames : (channel : ℕ) (said : RecordData) → HasFramesIfAny channel (what_of_record said)
 record_has_no_frames channel (OfProgram named version first insns) = tt
 record_has_no_frames channel (OfEnd end) = tt
 
-read_record : (at : ℕ) (b : FileBlock) (channel : ℕ) (counter : Option ℕ) (body : List ℕ) → b.content ≡ PieceBlock channel (OfRecord counter body)
+read_record : (at : ℕ) (b : FileBlock) (channel place : ℕ) (counter : Option ℕ) (body : List ℕ) → b.content ≡ PieceBlock channel (OfRecord place counter body)
     → b.channel ≡ 0 → IsHeader (block_header b) → (read : IsReadRecord channel counter body)
-    → HasHead (head_of_piece (OfRecord counter body)) b.counter → IsReadAs at b (read_packet at b (what_of_record read.said))
-read_record at b channel counter body is own header read head =
+    → HasHead (head_of_piece (OfRecord place counter body)) b.counter → IsReadAs at b (read_packet at b (what_of_record read.said))
+read_record at b channel place counter body is own header read head =
     let what = what_of_record read.said in
     let bytes : block_body b.content ≡ body = ap block_body is in
     let says : SaysRecord (block_header b) = (plain_is b, kind_is b ∙ ap (λ (c : BlockContent). data_type (kind_of c)) is, channel_is b ∙ own) in
@@ -240,12 +241,12 @@ read_record at b channel counter body is own header read head =
       place = refl;
       spelled = spelled at b what header (record_class (block_header b) (block_body b.content) read.said says
           (subst (SpellsRecord read.said) (sym bytes) read.spells));
-      held = λ other. record_held other (block_header b).channel (block_header b).counter read.said
+      held = λ other. record_held other (block_header b).channel at (block_header b).counter read.said
           (data_in (block_header b) (read_packet at b what).body)
           ∙ ap (λ l. if record_channel read.said == other then HeldRecord (record_counter read.said (block_header b).counter) l ∷ [] else [])
           (data_are at b what ∙ bytes)
           ∙ ap (λ n. if record_channel read.said == other then HeldRecord n body ∷ [] else [])
-          (ap (record_counter read.said) (counter_is b) ∙ counter_again read.said read.own b.counter counter body read.counted head)
+          (ap (record_counter read.said) (counter_is b) ∙ counter_again place read.said read.own b.counter counter body read.counted head)
           ∙ ap (λ n. if n == other then HeldRecord counter body ∷ [] else []) read.named
           ∙ sym (ap (block_held other) is);
       some = record_has_no_frames (block_header b).channel read.said;
@@ -289,10 +290,10 @@ read_content setup at b (TimeBlock x time) is own header has = (
       (kind_not b (TimeBlock x time) COMPUTER_GENERATED_DATA is (λ e. omega (arith, e)))
       (nothing_of b (TimeBlock x time) is (λ channel. refl)) header,
 )
-read_content setup at b (PieceBlock channel (OfFrames frames)) is own header has =
-    (read_packet at b (HoldsFrames (length frames)), read_frames at b channel frames is own header has.0)
-read_content setup at b (PieceBlock channel (OfRecord counter body)) is own header has =
-    (read_packet at b (what_of_record has.0.said), read_record at b channel counter body is own header has.0 has.1)
+read_content setup at b (PieceBlock channel (OfFrames place frames)) is own header has =
+    (read_packet at b (HoldsFrames (length frames)), read_frames at b channel place frames is own header has.0)
+read_content setup at b (PieceBlock channel (OfRecord place counter body)) is own header has =
+    (read_packet at b (what_of_record has.0.said), read_record at b channel place counter body is own header has.0 has.1)
 read_content setup at b (NodeBlock entries) is own header has = (
   read_packet at b Other,
   read_other at b

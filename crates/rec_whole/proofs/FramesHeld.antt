@@ -15,8 +15,8 @@ all_frames [] = refl
 all_frames (frame ∷ frames) = ap (λ l. frame ∷ l) (all_frames frames)
 
 of_piece : (piece : FilePiece) → flat_map frame_held (held_in piece) ≡ frames_of_piece piece
-of_piece (OfFrames frames) = all_frames frames
-of_piece (OfRecord counter body) = refl
+of_piece (OfFrames place frames) = all_frames frames
+of_piece (OfRecord place counter body) = refl
 
 pub frames_held : (pieces : List FilePiece) → flat_map frame_held (flat_map held_in pieces) ≡ flat_map frames_of_piece pieces
 frames_held [] = refl

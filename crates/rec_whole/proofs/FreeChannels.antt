@@ -30,7 +30,7 @@ here a = omega arith
 behind : (a k : ℕ) → a + suc k ≡ a + 1 + k
 behind a k = omega arith
 
-fewer : (p : ℕ → Bool) (a n k : ℕ) → k < n → p (a + k) ≡ false → length (filter p (range_with_len a n)) < n
+pub fewer : (p : ℕ → Bool) (a n k : ℕ) → k < n → p (a + k) ≡ false → length (filter p (range_with_len a n)) < n
 fewer p a zero k less not = absurd (omega (arith, less))
 fewer p a (suc n) zero less not =
     omega (arith, none_here (p a) a (filter p (range_with_len (a + 1) n)) (ap p (sym (here a)) ∙ not), at_most p (a + 1) n)
@@ -41,7 +41,7 @@ fewer p a (suc n) (suc k) less not =
       fewer p (a + 1) n k (omega (arith, less)) (ap p (sym (behind a k)) ∙ not),
     )
 
-from_none : (id : ℕ) → 0 + id ≡ id
+pub from_none : (id : ℕ) → 0 + id ≡ id
 from_none id = omega arith
 
 few_listed : (listing : PieceListing) (id : ℕ) → IsLeastFree (is_listed listing) id → length (listed_channels listing) < 2 ^ 16

@@ -43,12 +43,12 @@ none_of_both [] ys none = (refl, none)
 none_of_both (x ∷ xs) ys none = absurd (true≢false none)
 
 none_named : (channel at counter : ℕ) (named : Option (ℕ × PieceKind)) (bytes : List ℕ) → are_some (entry_named channel at named) ≡ false
-    → pieces_named channel named counter bytes ≡ []
+    → pieces_named channel named at counter bytes ≡ []
 none_named channel at counter None bytes none = refl
 none_named channel at counter (Some (named, kind)) bytes none = here (named == channel) none
   where
     here : (is : Bool) → are_some (if is then record { at = at; kind = kind } ∷ [] else []) ≡ false
-        → (if is then pieces_of kind counter bytes else []) ≡ []
+        → (if is then pieces_of kind at counter bytes else []) ≡ []
     here true none = absurd (true≢false none)
     here false none = refl
 
@@ -130,8 +130,8 @@ blocks_out recording packets rules most setup blocks reads whole =
 short_content : (content : BlockContent) (counter : ℕ) → ContentHas IsReadPiece content counter → HasShortFrames content
 short_content (SetupBlock text) counter has = tt
 short_content (TimeBlock e time) counter has = tt
-short_content (PieceBlock channel (OfFrames frames)) counter has = has.0.short
-short_content (PieceBlock channel (OfRecord own body)) counter has = tt
+short_content (PieceBlock channel (OfFrames place frames)) counter has = has.0.short
+short_content (PieceBlock channel (OfRecord place own body)) counter has = tt
 short_content (NodeBlock entries) counter has = tt
 short_content (RootBlock nodes last) counter has = tt
 

@@ -43,12 +43,13 @@ one_moment least rules a b tick clock p q =
     let y = point_agrees least rules b tick clock q in
     one_last (clock_time rules tick) a b (last_at a (clock_time rules tick) x.0 x.1) (last_at b (clock_time rules tick) y.0 y.1)
 
-one_told : (least : ℕ) (rules : List Origin) (a b : ℤ) (tick : ℕ) (time other : CivilTime) → IsClock rules → IsTimePoint least rules a tick
+pub one_told : (least : ℕ) (rules : List Origin) (a b : ℤ) (tick : ℕ) (time other : CivilTime) → IsClock rules → IsTimePoint least rules a tick
     → IsTimePoint least rules b tick → IsTimeOf time a → IsTimeOf other b → other ≡ time
 one_told least rules a b tick time other clock p q tells its =
     one_time other time b its (subst (IsTimeOf time) (one_moment least rules a b tick clock p q) tells)
 
-one_next_tick : (least : ℕ) (rules : List Origin) (tick next other : ℕ) → IsNextTick least rules tick next → IsNextTick least rules tick other → other ≡ next
+pub one_next_tick : (least : ℕ) (rules : List Origin) (tick next other : ℕ) → IsNextTick least rules tick next
+    → IsNextTick least rules tick other → other ≡ next
 one_next_tick least rules tick next other (inl a) (inl b) =
     let x = a.first b.moment other b.is b.behind in
     let y = b.first a.moment next a.is a.behind in
@@ -304,7 +305,7 @@ apart_behind facts old (RootBlock ns l) b new n apart = subst (λ (s : FileState
 made_block : (channel sequence counter : ℕ) → BlockContent → FileBlock
 made_block channel sequence counter content = record { channel = channel; sequence = sequence; counter = counter; content = content }
 
-same_block : (b c : FileBlock) → c.channel ≡ b.channel → c.sequence ≡ b.sequence → c.counter ≡ b.counter → c.content ≡ b.content → c ≡ b
+pub same_block : (b c : FileBlock) → c.channel ≡ b.channel → c.sequence ≡ b.sequence → c.counter ≡ b.counter → c.content ≡ b.content → c ≡ b
 unfolding made_block
 same_block b c k s n x =
     ap (λ v. made_block v c.sequence c.counter c.content) k ∙ ap (λ v. made_block b.channel v c.counter c.content) s
@@ -346,7 +347,7 @@ one_out facts clock old end fin ahead (b ∷ xs) (c ∷ cs) one apart go its na 
     (subst (λ (d : FileBlock). AreNumbered (ahead ++ d ∷ []) cs) block nb.1) over last in
     ap (λ d. d ∷ cs) block ∙ ap (λ l. b ∷ l) rest
 
-one_first : (least : ℕ) (rules : List Origin) (a b : ℤ) (tick other : ℕ) → IsFirstTime least rules a tick → IsFirstTime least rules b other → other ≡ tick
+pub one_first : (least : ℕ) (rules : List Origin) (a b : ℤ) (tick other : ℕ) → IsFirstTime least rules a tick → IsFirstTime least rules b other → other ≡ tick
 one_first least rules a b tick other p q = let x = p.first b other q.is in let y = q.first a tick p.is in omega (arith, x, y)
 
 pub one_file : (facts : FileFacts) (blocks others : List FileBlock) → IsClock facts.rules → 0 < facts.most → AreNamedApart facts.channels

@@ -52,8 +52,8 @@ pub record IsReadRecord (channel : ℕ) (counter : Option ℕ) (body : List ℕ)
   pub counted : counter ≡ record_counter said own
 
 abbrev pub IsReadPiece : (channel : ℕ) → FilePiece → Type 0
-IsReadPiece channel (OfFrames frames) = AreReadFrames channel frames
-IsReadPiece channel (OfRecord counter body) = IsReadRecord channel counter body
+IsReadPiece channel (OfFrames place frames) = AreReadFrames channel frames
+IsReadPiece channel (OfRecord place counter body) = IsReadRecord channel counter body
 
 -- ---- parts of short frames
 
@@ -120,29 +120,29 @@ front_read channel tick f fs on read =
 tail_read : (channel : ℕ) (f g : ReadFrameData) (gs : List ReadFrameData) → AreReadFrames channel (f ∷ g ∷ gs) → AreReadFrames channel (g ∷ gs)
 tail_read channel f g gs read = record { named = read.named; each = read.each.1; short = short_tail f g gs read.short }
 
-rest_read : (channel tick : ℕ) (f : ReadFrameData) (fs : List ReadFrameData) → AreReadFrames channel (f ∷ fs)
-    → AllByRecursion (IsReadPiece channel) (piece_of (frames_from tick (f ∷ fs)))
-rest_read channel tick f [] read =
-    elim (cases_Bool (nat_lt f.counter tick)) as (λ _. AllByRecursion (IsReadPiece channel) (piece_of (frames_from tick (f ∷ [])))) [
+rest_read : (channel tick place : ℕ) (f : ReadFrameData) (fs : List ReadFrameData) → AreReadFrames channel (f ∷ fs)
+    → AllByRecursion (IsReadPiece channel) (piece_of place (frames_from tick (f ∷ fs)))
+rest_read channel tick place f [] read =
+    elim (cases_Bool (nat_lt f.counter tick)) as (λ _. AllByRecursion (IsReadPiece channel) (piece_of place (frames_from tick (f ∷ [])))) [
       | inl on ↦ rw on tt
       | inr off ↦ rw off (read, tt)
     ]
-rest_read channel tick f (g ∷ gs) read =
-    elim (cases_Bool (nat_lt f.counter tick)) as (λ _. AllByRecursion (IsReadPiece channel) (piece_of (frames_from tick (f ∷ g ∷ gs)))) [
-      | inl on ↦ rw on (rest_read channel tick g gs (tail_read channel f g gs read))
+rest_read channel tick place f (g ∷ gs) read =
+    elim (cases_Bool (nat_lt f.counter tick)) as (λ _. AllByRecursion (IsReadPiece channel) (piece_of place (frames_from tick (f ∷ g ∷ gs)))) [
+      | inl on ↦ rw on (rest_read channel tick place g gs (tail_read channel f g gs read))
       | inr off ↦ rw off (read, tt)
     ]
 
 part_read : (channel tick : ℕ) (piece : FilePiece) → is_due tick (head_of_piece piece) ≡ false → IsReadPiece channel piece
     → IsReadPiece channel (part_before tick piece)
-part_read channel tick (OfFrames []) early read = absurd read.short
-part_read channel tick (OfFrames (f ∷ fs)) early read = front_read channel tick f fs (early_first tick f.counter early) read
-part_read channel tick (OfRecord counter body) early read = read
+part_read channel tick (OfFrames place []) early read = absurd read.short
+part_read channel tick (OfFrames place (f ∷ fs)) early read = front_read channel tick f fs (early_first tick f.counter early) read
+part_read channel tick (OfRecord place counter body) early read = read
 
 stays_read : (channel tick : ℕ) (piece : FilePiece) → IsReadPiece channel piece → AllByRecursion (IsReadPiece channel) (part_from tick piece)
-stays_read channel tick (OfFrames []) read = absurd read.short
-stays_read channel tick (OfFrames (f ∷ fs)) read = rest_read channel tick f fs read
-stays_read channel tick (OfRecord counter body) read = tt
+stays_read channel tick (OfFrames place []) read = absurd read.short
+stays_read channel tick (OfFrames place (f ∷ fs)) read = rest_read channel tick place f fs read
+stays_read channel tick (OfRecord place counter body) read = tt
 
 pub parts_read : IsOfParts IsReadPiece
 parts_read = record { before = part_read; behind = stays_read }
@@ -150,19 +150,19 @@ parts_read = record { before = part_read; behind = stays_read }
 -- ---- the pieces of frames
 
 abbrev pub IsOfFrames : FilePiece → Type 0
-IsOfFrames (OfFrames frames) = Unit {0}
-IsOfFrames (OfRecord counter body) = ⊥
+IsOfFrames (OfFrames place frames) = Unit {0}
+IsOfFrames (OfRecord place counter body) = ⊥
 
-frames_behind : (piece : PieceSoFar) (frames : List ReadFrameData) → AllByRecursion IsOfFrames (cut_behind piece frames).1
-frames_behind piece [] = tt
-frames_behind piece (f ∷ fs) = elim (cases_Bool (goes_on piece f)) as (λ _. AllByRecursion IsOfFrames (cut_behind piece (f ∷ fs)).1) [
-  | inl on ↦ rw on (frames_behind (with_frame piece f) fs)
-  | inr off ↦ rw off (tt, frames_behind (begun f) fs)
+frames_behind : (place : ℕ) (piece : PieceSoFar) (frames : List ReadFrameData) → AllByRecursion IsOfFrames (cut_behind place piece frames).1
+frames_behind place piece [] = tt
+frames_behind place piece (f ∷ fs) = elim (cases_Bool (goes_on piece f)) as (λ _. AllByRecursion IsOfFrames (cut_behind place piece (f ∷ fs)).1) [
+  | inl on ↦ rw on (frames_behind place (with_frame piece f) fs)
+  | inr off ↦ rw off (tt, frames_behind place (begun f) fs)
 ]
 
-pub all_of_frames : (frames : List ReadFrameData) → AllByRecursion IsOfFrames (frames_pieces frames)
-all_of_frames [] = tt
-all_of_frames (f ∷ fs) = (tt, frames_behind (begun f) fs)
+pub all_of_frames : (place : ℕ) (frames : List ReadFrameData) → AllByRecursion IsOfFrames (frames_pieces place frames)
+all_of_frames place [] = tt
+all_of_frames place (f ∷ fs) = (tt, frames_behind place (begun f) fs)
 
 all_front : {X : Type 0} (P : X → Type 0) (xs ys : List X) → AllByRecursion P (xs ++ ys) → AllByRecursion P xs
 all_front P [] ys all = tt
@@ -176,17 +176,18 @@ each_read : (channel : ℕ) (pieces : List FilePiece) → channel ≢ 0 → AllB
     → AllByRecursion IsShortPiece (map frames_of_piece pieces) → AllByRecursion IsReadFrame (joined_frames (map frames_of_piece pieces))
     → AllByRecursion (IsReadPiece channel) pieces
 each_read channel [] named of short each = tt
-each_read channel (OfFrames fs ∷ ps) named of short each = (
+each_read channel (OfFrames place fs ∷ ps) named of short each = (
   record { named = named; each = all_front IsReadFrame fs (joined_frames (map frames_of_piece ps)) each; short = short.0 },
   each_read channel ps named of.1 short.1 (all_back IsReadFrame fs (joined_frames (map frames_of_piece ps)) each),
 )
-each_read channel (OfRecord counter body ∷ ps) named of short each = absurd of.0
+each_read channel (OfRecord place counter body ∷ ps) named of short each = absurd of.0
 
-frames_read : (channel : ℕ) (frames : List ReadFrameData) → channel ≢ 0 → AllByRecursion IsReadFrame frames
-    → AllByRecursion (IsReadPiece channel) (frames_pieces frames)
-frames_read channel frames named each =
-    let cut = pieces_cut frames in
-    each_read channel (frames_pieces frames) named (all_of_frames frames) (pieces_short frames (map frames_of_piece (frames_pieces frames)) cut)
+frames_read : (channel place : ℕ) (frames : List ReadFrameData) → channel ≢ 0 → AllByRecursion IsReadFrame frames
+    → AllByRecursion (IsReadPiece channel) (frames_pieces place frames)
+frames_read channel place frames named each =
+    let cut = pieces_cut place frames in
+    each_read channel (frames_pieces place frames) named (all_of_frames place frames)
+    (pieces_short frames (map frames_of_piece (frames_pieces place frames)) cut)
     (subst (AllByRecursion IsReadFrame) (sym cut.whole) each)
 
 -- ---- the pieces of packets
@@ -200,23 +201,23 @@ where_so : (P : FilePiece → Type 0) (is : Bool) (pieces : List FilePiece) → 
 where_so P true pieces all = all refl
 where_so P false pieces all = tt
 
-pub end_counted : (is : Bool) (counter : ℕ) (bytes : List ℕ)
-    → pieces_of (if is then Uncounted else Record) counter bytes ≡ OfRecord (if is then None else Some counter) bytes ∷ []
-end_counted true counter bytes = refl
-end_counted false counter bytes = refl
+pub end_counted : (is : Bool) (place counter : ℕ) (bytes : List ℕ)
+    → pieces_of (if is then Uncounted else Record) place counter bytes ≡ OfRecord place (if is then None else Some counter) bytes ∷ []
+end_counted true place counter bytes = refl
+end_counted false place counter bytes = refl
 
-class_read : (header : HeaderData) (bytes : List ℕ) (what : What) (channel counter : ℕ) → HasClass header bytes what
-    → AllByRecursion (IsReadPiece channel) (pieces_named channel (named_by header.channel what) counter bytes)
-class_read header bytes (HoldsFrames count) channel counter has = elim (cases_Bool (header.channel == 0)) as (λ _.
-    AllByRecursion (IsReadPiece channel) (pieces_named channel (named_by header.channel (HoldsFrames count)) counter bytes)) [
+class_read : (header : HeaderData) (bytes : List ℕ) (what : What) (channel place counter : ℕ) → HasClass header bytes what
+    → AllByRecursion (IsReadPiece channel) (pieces_named channel (named_by header.channel what) place counter bytes)
+class_read header bytes (HoldsFrames count) channel place counter has = elim (cases_Bool (header.channel == 0)) as (λ _.
+    AllByRecursion (IsReadPiece channel) (pieces_named channel (named_by header.channel (HoldsFrames count)) place counter bytes)) [
       | inl none ↦ rw none tt
-      | inr some ↦ rw some (where_so (IsReadPiece channel) (header.channel == channel) (frames_pieces (said_frames bytes)) (λ same.
-          frames_read channel (said_frames bytes)
+      | inr some ↦ rw some (where_so (IsReadPiece channel) (header.channel == channel) (frames_pieces place (said_frames bytes)) (λ same.
+          frames_read channel place (said_frames bytes)
           (subst (λ n. n ≢ 0) (eqb-true header.channel channel same) (eqb-false header.channel 0 some))
           (subst (AllByRecursion IsReadFrame) (sym (said_by_body has.1 bytes has.2)) (spelled_frames has.1 has.2.rest [] has.2.held))))
     ]
-class_read header bytes (Program named version first count) channel counter has =
-    where_so (IsReadPiece channel) (named == channel) (OfRecord (Some counter) bytes ∷ []) (λ same. (
+class_read header bytes (Program named version first count) channel place counter has =
+    where_so (IsReadPiece channel) (named == channel) (OfRecord place (Some counter) bytes ∷ []) (λ same. (
       record {
         said = OfProgram named version first has.1;
         spells = has.2;
@@ -226,9 +227,9 @@ class_read header bytes (Program named version first count) channel counter has 
       },
       tt,
     ))
-class_read header bytes (End named offered kept) channel counter has =
-    where_so (IsReadPiece channel) (named == channel) (pieces_of (if offered == 0 then Uncounted else Record) counter bytes) (λ same.
-    subst (AllByRecursion (IsReadPiece channel)) (sym (end_counted (offered == 0) counter bytes)) (
+class_read header bytes (End named offered kept) channel place counter has =
+    where_so (IsReadPiece channel) (named == channel) (pieces_of (if offered == 0 then Uncounted else Record) place counter bytes) (λ same.
+    subst (AllByRecursion (IsReadPiece channel)) (sym (end_counted (offered == 0) place counter bytes)) (
       record {
         said = OfEnd (record { channel = named; offered = offered; kept = kept });
         spells = has.1;
@@ -238,14 +239,14 @@ class_read header bytes (End named offered kept) channel counter has =
       },
       tt,
     ))
-class_read header bytes Other channel counter has = tt
+class_read header bytes Other channel place counter has = tt
 
 packets_read : (channel at : ℕ) (packets : List PacketData) (bytes rest : List ℕ) → BeginsPackets at packets bytes rest
     → AllByRecursion (IsReadPiece channel) (pieces_of_channel channel packets)
 packets_read channel at [] bytes rest begins = tt
 packets_read channel at (p ∷ ps) bytes rest begins =
     all_append (IsReadPiece channel) (pieces_of_packet channel p) (pieces_of_channel channel ps)
-    (class_read p.header (data_in p.header p.body) p.what channel p.header.counter begins.1.spelled.holds.class)
+    (class_read p.header (data_in p.header p.body) p.what channel p.at p.header.counter begins.1.spelled.holds.class)
     (packets_read channel (at + p.header.packet_len) ps begins.0 rest begins.2)
 
 pub pieces_read : (bytes : List ℕ) (packets : List PacketData) → Reads bytes packets None → (channel : ℕ)

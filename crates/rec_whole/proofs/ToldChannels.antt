@@ -22,7 +22,7 @@ use Rattle.ch11_merge.specs.Parts.{frames_pieces}
 use Rattle.rec_reader.specs.declared.audits.channel.ChannelProgram.{ChannelProgram}
 use Rattle.rec_reader.specs.declared.audits.channel.ChannelEnd.{ChannelEnd}
 use Rattle.rec_reader.specs.Packets.{PacketData, BeginsPackets}
-use Rattle.rec_reader.specs.ChannelFrames.{channel_frames, frames_held}
+use Rattle.rec_reader.specs.ChannelFrames.{channel_frames, frames_held, packet_frames}
 use Rattle.rec_reader.specs.Channels.{Saying, saying_in, saying_of, program_said, programs_of, end_said, ends_of, stored_program}
 use Rattle.rec_reader.specs.Channels.Saying.{OfFrames, OfProgram, OfEnd}
 use Rattle.rec_pieces.specs.Entries.{named_by, pieces_named, pieces_of_channel, pieces_of_packet}
@@ -146,37 +146,38 @@ zip_frames : (frames : List ReadFrameData) → AllZip SaysTold (map HeldFrame fr
 zip_frames [] = tt
 zip_frames (f ∷ fs) = (refl, zip_frames fs)
 
-zip_where : (is : Bool) (frames : List ReadFrameData)
-    → AllZip SaysTold (flat_map held_in (if is then frames_pieces frames else [])) (if is then map ToldFrame frames else [])
-zip_where true frames = subst (λ hs. AllZip SaysTold hs (map ToldFrame frames)) (sym (held_pieces frames)) (zip_frames frames)
-zip_where false frames = tt
+zip_where : (place : ℕ) (is : Bool) (frames : List ReadFrameData)
+    → AllZip SaysTold (flat_map held_in (if is then frames_pieces place frames else [])) (if is then map ToldFrame frames else [])
+zip_where place true frames = subst (λ hs. AllZip SaysTold hs (map ToldFrame frames)) (sym (held_pieces place frames)) (zip_frames frames)
+zip_where place false frames = tt
 
-zip_record : (is : Bool) (counter : Option ℕ) (body : List ℕ) (told : Told) → SaysTold (HeldRecord counter body) told
-    → AllZip SaysTold (flat_map held_in (if is then OfRecord counter body ∷ [] else [])) (if is then told ∷ [] else [])
-zip_record true counter body told says = (says, tt)
-zip_record false counter body told says = tt
+zip_record : (place : ℕ) (is : Bool) (counter : Option ℕ) (body : List ℕ) (told : Told) → SaysTold (HeldRecord counter body) told
+    → AllZip SaysTold (flat_map held_in (if is then OfRecord place counter body ∷ [] else [])) (if is then told ∷ [] else [])
+zip_record place true counter body told says = (says, tt)
+zip_record place false counter body told says = tt
 
 of_other_channel : (own channel : ℕ) (frames : List ReadFrameData) → channel ≢ 0 → (own == 0) ≡ true
     → AllZip SaysTold [] (if own == channel then map ToldFrame frames else [])
 of_other_channel own channel frames some none =
     rw (ne_eqb own channel (λ e. some (sym e ∙ eqb-true own 0 none))) tt
 
-class_told : (channel own counter : ℕ) (header : HeaderData) (what : What) (bytes : List ℕ) → channel ≢ 0 → HasClass header bytes what
-    → AllZip SaysTold (flat_map held_in (pieces_named channel (named_by own what) counter bytes)) (told_in channel (saying_in own what bytes))
-class_told channel own counter header (HoldsFrames count) bytes some has = elim (cases_Bool (own == 0)) as (λ _.
-    AllZip SaysTold (flat_map held_in (pieces_named channel (named_by own (HoldsFrames count)) counter bytes))
+class_told : (channel own place counter : ℕ) (header : HeaderData) (what : What) (bytes : List ℕ) → channel ≢ 0 → HasClass header bytes what
+    → AllZip SaysTold (flat_map held_in (pieces_named channel (named_by own what) place counter bytes)) (told_in channel (saying_in own what bytes))
+class_told channel own place counter header (HoldsFrames count) bytes some has = elim (cases_Bool (own == 0)) as (λ _.
+    AllZip SaysTold (flat_map held_in (pieces_named channel (named_by own (HoldsFrames count)) place counter bytes))
     (if own == channel then map ToldFrame (said_frames bytes) else [])) [
       | inl none ↦ rw none (of_other_channel own channel (said_frames bytes) some none)
-      | inr more ↦ rw more (zip_where (own == channel) (said_frames bytes))
+      | inr more ↦ rw more (zip_where place (own == channel) (said_frames bytes))
     ]
-class_told channel own counter header (Program named version first count) bytes some has =
-    zip_record (named == channel) (Some counter) bytes (ToldProgram (stored_program version first count bytes))
+class_told channel own place counter header (Program named version first count) bytes some has =
+    zip_record place (named == channel) (Some counter) bytes (ToldProgram (stored_program version first count bytes))
     (named, has.1, has.2, ap (λ n. stored_insns n (drop PROGRAM_HEAD_LEN bytes)) (sym has.3))
-class_told channel own counter header (End named offered kept) bytes some has =
+class_told channel own place counter header (End named offered kept) bytes some has =
     subst (λ ps. AllZip SaysTold (flat_map held_in (if named == channel then ps else []))
-    (if named == channel then ToldEnd (record { offered = offered; kept = kept }) ∷ [] else [])) (sym (end_counted (offered == 0) counter bytes))
-    (zip_record (named == channel) (if offered == 0 then None else Some counter) bytes (ToldEnd (record { offered = offered; kept = kept })) (named, has.1))
-class_told channel own counter header Other bytes some has = tt
+    (if named == channel then ToldEnd (record { offered = offered; kept = kept }) ∷ [] else [])) (sym (end_counted (offered == 0) place counter bytes))
+    (zip_record place (named == channel) (if offered == 0 then None else Some counter) bytes (ToldEnd (record { offered = offered; kept = kept }))
+    (named, has.1))
+class_told channel own place counter header Other bytes some has = tt
 
 packets_tell : (channel at : ℕ) (packets : List PacketData) (bytes rest : List ℕ) → channel ≢ 0 → BeginsPackets at packets bytes rest
     → AllZip SaysTold (held_in_packets channel packets) (told_of channel packets)
@@ -184,7 +185,7 @@ packets_tell channel at [] bytes rest some begins = tt
 packets_tell channel at (p ∷ ps) bytes rest some begins =
     subst (λ hs. AllZip SaysTold hs (told_of channel (p ∷ ps))) (sym (flat_map-append held_in (pieces_of_packet channel p) (pieces_of_channel channel ps)))
     (zip_append (flat_map held_in (pieces_of_packet channel p)) (held_in_packets channel ps) (told_in channel (saying_of p)) (told_of channel ps)
-    (class_told channel p.header.channel p.header.counter p.header p.what (data_in p.header p.body) some begins.1.spelled.holds.class)
+    (class_told channel p.header.channel p.at p.header.counter p.header p.what (data_in p.header p.body) some begins.1.spelled.holds.class)
     (packets_tell channel (at + p.header.packet_len) ps begins.0 rest some begins.2))
 
 -- packets that hold the same of a channel say the same of it
@@ -216,106 +217,79 @@ only_frames : (frames : List ReadFrameData) → flat_map frame_told (map ToldFra
 only_frames [] = refl
 only_frames (f ∷ fs) = ap (λ l. f ∷ l) (only_frames fs)
 
-no_programs : (frames : List ReadFrameData) → flat_map program_told (map ToldFrame frames) ≡ []
-no_programs [] = refl
-no_programs (f ∷ fs) = no_programs fs
+-- nothing of frames
+nothing : {X : Type 0} (pick : Told → List X) → ((frame : ReadFrameData) → pick (ToldFrame frame) ≡ []) → (frames : List ReadFrameData)
+    → flat_map pick (map ToldFrame frames) ≡ []
+nothing pick none [] = refl
+nothing pick none (f ∷ fs) = ap (λ l. l ++ flat_map pick (map ToldFrame fs)) (none f) ∙ nothing pick none fs
 
-no_ends : (frames : List ReadFrameData) → flat_map end_told (map ToldFrame frames) ≡ []
-no_ends [] = refl
-no_ends (f ∷ fs) = no_ends fs
+-- what is picked of what a packet says of a channel
+where_said : {X : Type 0} (pick : Told → List X) (is : Bool) (said : List X) (told : List Told) → said ≡ flat_map pick told
+    → (if is then said else []) ≡ flat_map pick (if is then told else [])
+where_said pick true said told same = same
+where_said pick false said told same = refl
+
+where_none : {X : Type 0} (pick : Told → List X) (is : Bool) (told : List Told) → flat_map pick told ≡ []
+    → [] ≡ flat_map pick (if is then told else [])
+where_none pick true told none = sym none
+where_none pick false told none = refl
+
+either : {X : Type 0} (is : Bool) → ◌≡◌ {A = List X} (if is then [] else []) []
+either true = refl
+either false = refl
 
 frames_by : (channel own : ℕ) (what : What) (bytes : List ℕ)
     → (if own == channel then frames_held what bytes else []) ≡ flat_map frame_told (told_in channel (saying_in own what bytes))
-frames_by channel own (HoldsFrames count) bytes = here (own == channel)
-  where
-    here : (is : Bool) → (if is then said_frames bytes else []) ≡ flat_map frame_told (if is then map ToldFrame (said_frames bytes) else [])
-    here true = sym (only_frames (said_frames bytes))
-    here false = refl
-frames_by channel own (Program named version first count) bytes = here (own == channel) (named == channel)
-  where
-    here : (is at : Bool) → ◌≡◌ {A = List ReadFrameData} (if is then [] else [])
-        (flat_map frame_told (if at then ToldProgram (stored_program version first count bytes) ∷ [] else []))
-    here true true = refl
-    here true false = refl
-    here false true = refl
-    here false false = refl
-frames_by channel own (End named offered kept) bytes = here (own == channel) (named == channel)
-  where
-    here : (is at : Bool) → ◌≡◌ {A = List ReadFrameData} (if is then [] else [])
-        (flat_map frame_told (if at then ToldEnd (record { offered = offered; kept = kept }) ∷ [] else []))
-    here true true = refl
-    here true false = refl
-    here false true = refl
-    here false false = refl
-frames_by channel own Other bytes = here (own == channel)
-  where
-    here : (is : Bool) → ◌≡◌ {A = List ReadFrameData} (if is then [] else []) []
-    here true = refl
-    here false = refl
+frames_by channel own (HoldsFrames count) bytes =
+    where_said frame_told (own == channel) (said_frames bytes) (map ToldFrame (said_frames bytes)) (sym (only_frames (said_frames bytes)))
+frames_by channel own (Program named version first count) bytes =
+    either (own == channel) ∙ where_none frame_told (named == channel) (ToldProgram (stored_program version first count bytes) ∷ []) refl
+frames_by channel own (End named offered kept) bytes =
+    either (own == channel) ∙ where_none frame_told (named == channel) (ToldEnd (record { offered = offered; kept = kept }) ∷ []) refl
+frames_by channel own Other bytes = either (own == channel)
 
 pub programs_by : (channel : ℕ) (said : Option (ℕ × Saying)) → program_said channel said ≡ flat_map program_told (told_in channel said)
 programs_by channel None = refl
-programs_by channel (Some (named, OfFrames frames)) = here (named == channel)
-  where
-    here : (is : Bool) → [] ≡ flat_map program_told (if is then map ToldFrame frames else [])
-    here true = sym (no_programs frames)
-    here false = refl
-programs_by channel (Some (named, OfProgram program)) = here (named == channel)
-  where
-    here : (is : Bool) → (if is then program ∷ [] else []) ≡ flat_map program_told (if is then ToldProgram program ∷ [] else [])
-    here true = refl
-    here false = refl
-programs_by channel (Some (named, OfEnd end)) = here (named == channel)
-  where
-    here : (is : Bool) → [] ≡ flat_map program_told (if is then ToldEnd end ∷ [] else [])
-    here true = refl
-    here false = refl
+programs_by channel (Some (named, OfFrames frames)) =
+    where_none program_told (named == channel) (map ToldFrame frames) (nothing program_told (λ frame. refl) frames)
+programs_by channel (Some (named, OfProgram program)) = where_said program_told (named == channel) (program ∷ []) (ToldProgram program ∷ []) refl
+programs_by channel (Some (named, OfEnd end)) = where_none program_told (named == channel) (ToldEnd end ∷ []) refl
 
 pub ends_by : (channel : ℕ) (said : Option (ℕ × Saying)) → end_said channel said ≡ flat_map end_told (told_in channel said)
 ends_by channel None = refl
-ends_by channel (Some (named, OfFrames frames)) = here (named == channel)
-  where
-    here : (is : Bool) → [] ≡ flat_map end_told (if is then map ToldFrame frames else [])
-    here true = sym (no_ends frames)
-    here false = refl
-ends_by channel (Some (named, OfProgram program)) = here (named == channel)
-  where
-    here : (is : Bool) → [] ≡ flat_map end_told (if is then ToldProgram program ∷ [] else [])
-    here true = refl
-    here false = refl
-ends_by channel (Some (named, OfEnd end)) = here (named == channel)
-  where
-    here : (is : Bool) → (if is then end ∷ [] else []) ≡ flat_map end_told (if is then ToldEnd end ∷ [] else [])
-    here true = refl
-    here false = refl
+ends_by channel (Some (named, OfFrames frames)) =
+    where_none end_told (named == channel) (map ToldFrame frames) (nothing end_told (λ frame. refl) frames)
+ends_by channel (Some (named, OfProgram program)) = where_none end_told (named == channel) (ToldProgram program ∷ []) refl
+ends_by channel (Some (named, OfEnd end)) = where_said end_told (named == channel) (end ∷ []) (ToldEnd end ∷ []) refl
 
-pub frames_of_told : (channel : ℕ) (packets : List PacketData) → channel_frames channel packets ≡ flat_map frame_told (told_of channel packets)
-frames_of_told channel [] = refl
-frames_of_told channel (p ∷ ps) =
-    ap (λ l. l ++ channel_frames channel ps) (frames_by channel p.header.channel p.what (data_in p.header p.body))
-    ∙ ap (λ l. flat_map frame_told (told_in channel (saying_of p)) ++ l) (frames_of_told channel ps)
-    ∙ sym (flat_map-append frame_told (told_in channel (saying_of p)) (told_of channel ps))
+-- what is picked packet by packet is picked of what is told
+of_told : {X : Type 0} (pick : Told → List X) (channel : ℕ) (each : PacketData → List X)
+    → ((p : PacketData) → each p ≡ flat_map pick (told_in channel (saying_of p))) → (packets : List PacketData)
+    → flat_map each packets ≡ flat_map pick (told_of channel packets)
+of_told pick channel each same [] = refl
+of_told pick channel each same (p ∷ ps) =
+    ap (λ l. l ++ flat_map each ps) (same p) ∙ ap (λ l. flat_map pick (told_in channel (saying_of p)) ++ l) (of_told pick channel each same ps)
+    ∙ sym (flat_map-append pick (told_in channel (saying_of p)) (told_of channel ps))
 
-pub programs_of_told : (channel : ℕ) (packets : List PacketData) → programs_of channel packets ≡ flat_map program_told (told_of channel packets)
-programs_of_told channel [] = refl
-programs_of_told channel (p ∷ ps) =
-    ap (λ l. l ++ programs_of channel ps) (programs_by channel (saying_of p))
-    ∙ ap (λ l. flat_map program_told (told_in channel (saying_of p)) ++ l) (programs_of_told channel ps)
-    ∙ sym (flat_map-append program_told (told_in channel (saying_of p)) (told_of channel ps))
+-- so packets have the same frames, programs and ends of a channel of which they say the same
+same_picked : {X : Type 0} (pick : Told → List X) (channel : ℕ) (each : PacketData → List X)
+    → ((p : PacketData) → each p ≡ flat_map pick (told_in channel (saying_of p))) → (ps qs : List PacketData)
+    → told_of channel qs ≡ told_of channel ps → flat_map each qs ≡ flat_map each ps
+same_picked pick channel each by ps qs same =
+    of_told pick channel each by qs ∙ ap (flat_map pick) same ∙ sym (of_told pick channel each by ps)
 
 pub ends_of_told : (channel : ℕ) (packets : List PacketData) → ends_of channel packets ≡ flat_map end_told (told_of channel packets)
-ends_of_told channel [] = refl
-ends_of_told channel (p ∷ ps) =
-    ap (λ l. l ++ ends_of channel ps) (ends_by channel (saying_of p))
-    ∙ ap (λ l. flat_map end_told (told_in channel (saying_of p)) ++ l) (ends_of_told channel ps)
-    ∙ sym (flat_map-append end_told (told_in channel (saying_of p)) (told_of channel ps))
+ends_of_told channel packets =
+    of_told end_told channel (λ (p : PacketData). end_said channel (saying_of p)) (λ p. ends_by channel (saying_of p)) packets
 
--- so they have the same frames, programs and ends of a channel of which they say the same
 pub same_frames : (channel : ℕ) (ps qs : List PacketData) → told_of channel qs ≡ told_of channel ps → channel_frames channel qs ≡ channel_frames channel ps
-same_frames channel ps qs same = frames_of_told channel qs ∙ ap (flat_map frame_told) same ∙ sym (frames_of_told channel ps)
+same_frames channel =
+    same_picked frame_told channel (λ (p : PacketData). if p.header.channel == channel then packet_frames p else [])
+    (λ p. frames_by channel p.header.channel p.what (data_in p.header p.body))
 
 pub same_programs : (channel : ℕ) (ps qs : List PacketData) → told_of channel qs ≡ told_of channel ps → programs_of channel qs ≡ programs_of channel ps
-same_programs channel ps qs same = programs_of_told channel qs ∙ ap (flat_map program_told) same ∙ sym (programs_of_told channel ps)
+same_programs channel =
+    same_picked program_told channel (λ (p : PacketData). program_said channel (saying_of p)) (λ p. programs_by channel (saying_of p))
 
 pub same_ends : (channel : ℕ) (ps qs : List PacketData) → told_of channel qs ≡ told_of channel ps → ends_of channel qs ≡ ends_of channel ps
-same_ends channel ps qs same = ends_of_told channel qs ∙ ap (flat_map end_told) same ∙ sym (ends_of_told channel ps)
+same_ends channel = same_picked end_told channel (λ (p : PacketData). end_said channel (saying_of p)) (λ p. ends_by channel (saying_of p))

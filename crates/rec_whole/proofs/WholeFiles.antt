@@ -15,7 +15,7 @@ use Rattle.ch11_file.specs.declared.end.FileFault.TheVariants.{Memory as LacksMe
 use Rattle.ch11_file.specs.declared.end.Refusal.TheVariants.{Disorder, Gap, Origin, Year}
 use Rattle.ch11_merge.specs.declared.source.PieceFault.{PieceFault}
 use Rattle.ch11_merge.specs.declared.source.PieceFault.TheVariants.{Device, Memory}
-use Rattle.ch11_file.specs.FileEnds.{FileFails, HoldsFile, HoldsFront, HoldsWhole, IsRefused}
+use Rattle.ch11_file.specs.FileEnds.{FileFails, HasNoGap, HoldsFile, HoldsFront, HoldsUpTo}
 use Rattle.rec_reader.specs.Packets.{PacketData}
 use Rattle.rec_reader.specs.Reading.{Reads}
 use Rattle.rec_pieces.specs.AllSources.{left_of}
@@ -61,7 +61,7 @@ said_of_packets held recording packets listing Say is reads had say =
 
 -- ---- ends
 
-front : (facts : FileFacts) (before held : Option (List ℕ)) → HoldsWhole facts before held → HoldsFront facts before held
+front : (facts : FileFacts) (before held : Option (List ℕ)) → HoldsUpTo facts before held HasNoGap → HoldsFront facts before held
 front facts before held whole = record {
   blocks = whole.blocks;
   now = whole.now;
@@ -75,7 +75,7 @@ pub ends_early : (facts : FileFacts) (before held : Option (List ℕ)) (end : Fi
 ends_early facts before held (IsRefusedFile (Disorder at)) fails = fails
 ends_early facts before held (IsRefusedFile (Gap at)) fails = fails
 ends_early facts before held (IsRefusedFile Origin) fails = fails
-ends_early facts before held (IsRefusedFile (Year at)) fails = subst (λ n. IsRefused facts before held (Year n)) fails.0 fails
+ends_early facts before held (IsRefusedFile Year) fails = fails
 ends_early facts before held (Pieces Device) fails = inr fails
 ends_early facts before held (Pieces Memory) fails = inr (front facts before held fails)
 ends_early facts before held (Write LacksMemory) fails = inr fails

@@ -16,7 +16,7 @@ abbrev pub refusal_of : Refusal → WholeRefusal
 refusal_of (IsDisordered at) = Disorder at
 refusal_of (HasGap at) = Gap at
 refusal_of NoOrigin = Origin
-refusal_of (NoYear at) = Year
+refusal_of NoYear = Year
 
 abbrev pub end_of_pieces : PieceFault → WholeEnd
 end_of_pieces NoDevice = Recording

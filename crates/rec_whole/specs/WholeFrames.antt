@@ -29,7 +29,7 @@ held_in_packets channel packets = flat_map held_in (pieces_of_channel channel pa
 abbrev pub HasShortFrames : BlockContent → Type 0
 HasShortFrames (SetupBlock text) = Unit {0}
 HasShortFrames (TimeBlock is_external time) = Unit {0}
-HasShortFrames (PieceBlock channel (OfFrames frames)) = IsShortPiece frames
-HasShortFrames (PieceBlock channel (OfRecord counter body)) = Unit {0}
+HasShortFrames (PieceBlock channel (OfFrames place frames)) = IsShortPiece frames
+HasShortFrames (PieceBlock channel (OfRecord place counter body)) = Unit {0}
 HasShortFrames (NodeBlock entries) = Unit {0}
 HasShortFrames (RootBlock nodes last) = Unit {0}

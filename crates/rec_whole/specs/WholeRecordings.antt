@@ -1,5 +1,5 @@
 -- The whole Chapter 11 file of a recording's packets: what it is made of, and why it is refused or ends early.
-use Rattle.std.specs.Prelude.{ℕ, ◌≡◌, ◌⊎◌, List, [], map, Option, None, Some}
+use Rattle.std.specs.Prelude.{ℕ, ◌≡◌, ◌⊎◌, true, List, [], map, Option, None, Some}
 use Rattle.std.specs.Option.{unwrap_or}
 use Rattle.std.specs.Io.KnownBytes.{Appends}
 use Rattle.ch11_clock.specs.declared.origin.Origin.{Origin}
@@ -8,7 +8,7 @@ use Rattle.ch11_file.specs.declared.setup.FileSetup.{FileSetup}
 use Rattle.ch11_file.specs.declared.counts.FileCounts.{FileCounts}
 use Rattle.ch11_file.specs.declared.end.Refusal.TheVariants.{Disorder as IsDisordered, Gap as HasGap, Origin as NoOrigin, Year as NoYear}
 use Rattle.ch11_file.specs.WholeFile.{FileFacts, facts_of}
-use Rattle.ch11_file.specs.FileEnds.{HoldsFile, HoldsFront, HoldsWhole, IsRefused}
+use Rattle.ch11_file.specs.FileEnds.{HasNoGap, HoldsFile, HoldsFront, HoldsUpTo, IsRefused}
 use Rattle.rec_reader.specs.Packets.{PacketData}
 use Rattle.rec_pieces.specs.Entries.{pieces_of_channel}
 use Rattle.rec_pieces.specs.Listings.{counters_of, least_of, other_of}
@@ -40,10 +40,11 @@ pub record SaysNames (names : FileNames) (setup : FileSetup) : Type 0 where
   pub source : setup.is_external ≡ names.is_external
   pub attributes : setup.attributes.now ≡ names.attributes.now
 
--- beside them it says the channels that packets name, and for the times the least channel ID from 1 on that
--- they don't
+-- beside them it says that an index follows, the channels that packets name, and for the times the least channel
+-- ID from 1 on that they don't
 pub record IsSetupOf (packets : List PacketData) (names : FileNames) (setup : FileSetup) : Type 0 where
   pub said : SaysNames names setup
+  pub indexed : setup.is_indexed ≡ true
   pub time_channel : IsLeastFree (is_named packets) setup.time_channel
   pub channels : AreNamed names.channels.now (named_channels packets) setup.channels.now
 
@@ -63,15 +64,15 @@ pub record OfFile (packets : List PacketData) (names : FileNames) (rules : List 
 -- ---- what is written
 
 -- why a file that is made of this ended early: a refusal is true; else nothing went out, or what went out
--- begins the file, where the recording failed without a part of a packet
+-- begins the file, where the recording failed without a part of a packet, and where no piece is refused as a gap
 abbrev pub EndsEarly : FileFacts → (before held : Option (List ℕ)) → WholeEnd → Type 0
 EndsEarly facts before held (Refused (Other at)) = ⊥
 EndsEarly facts before held (Refused (Disorder at)) = IsRefused facts before held (IsDisordered at)
 EndsEarly facts before held (Refused (Gap at)) = IsRefused facts before held (HasGap at)
 EndsEarly facts before held (Refused LacksOrigin) = IsRefused facts before held NoOrigin
-EndsEarly facts before held (Refused Year) = IsRefused facts before held (NoYear 0)
+EndsEarly facts before held (Refused Year) = IsRefused facts before held NoYear
 EndsEarly facts before held (Refused Full) = ⊥
-EndsEarly facts before held Recording = Appends before held [] ⊎ HoldsWhole facts before held
+EndsEarly facts before held Recording = Appends before held [] ⊎ HoldsUpTo facts before held HasNoGap
 EndsEarly facts before held Output = HoldsFront facts before held
 EndsEarly facts before held Memory = Appends before held [] ⊎ HoldsFront facts before held
 

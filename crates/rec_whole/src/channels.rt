@@ -1,7 +1,7 @@
 //! The channels of a recording in the setup record of its whole file.
 
 ghost use Rattle.std.specs.Prelude.{◌≡◌, IfOk, MatchOption};
-ghost use Rattle.rec_pieces.specs.PieceListings.{is_listed, listed_channels};
+ghost use Rattle.rec_pieces.specs.PieceListings.{is_listed};
 ghost use Rattle.rec_whole.specs.NamedChannels.{AreAllTaken, AreNamed, IsLeastFree, name_of, name_said};
 
 use ch11_setup::SetupChannel;
@@ -11,15 +11,14 @@ use std::alloc::{AllocError, Global};
 /// The name of a channel that has none.
 const UNNAMED: &str = "channel";
 
-/// The channels that a recording names, the least first, as a setup record has them.
-pub(crate) fn setup_channels<'a>(
+/// The channels of these IDs, as a setup record has them.
+pub fn setup_channels<'a>(
     alloc: Global,
-    listing: &PieceListing,
+    ids: &[u16],
     names: &[SetupChannel<'a>],
 ) -> Result<Vec<SetupChannel<'a>>, AllocError>
-    ensures { IfOk result (λ channels. AreNamed names.now (listed_channels listing.now) channels.items) }
+    ensures { IfOk result (λ channels. AreNamed names.now ids.now channels.items) }
 {
-    let ids = listing.channels(alloc)?;
     let mut channels = Vec::new(alloc);
     'channels: for k in 0..ids.len() {
         channels.push(named(names, ids[k]))?;

@@ -7,6 +7,7 @@ mod names;
 mod refusal;
 mod whole;
 
+pub use channels::setup_channels;
 pub use laws::{
     a_whole_file_has_no_other_frames, a_whole_file_is_read_back, a_whole_file_keeps_the_frames,
     a_whole_file_keeps_what_is_recorded, packets_of_a_whole_file_are_short,
@@ -14,4 +15,4 @@ pub use laws::{
 };
 pub use names::FileNames;
 pub use refusal::{WholeEnd, WholeRefusal};
-pub use whole::write_whole_file;
+pub use whole::{file_setup, write_whole_file};

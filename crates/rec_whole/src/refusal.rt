@@ -95,6 +95,6 @@ fn refusal_of(refusal: Refusal) -> WholeRefusal
         Refusal::Disorder { at } => WholeRefusal::Disorder { at },
         Refusal::Gap { at } => WholeRefusal::Gap { at },
         Refusal::Origin => WholeRefusal::Origin,
-        Refusal::Year { .. } => WholeRefusal::Year,
+        Refusal::Year => WholeRefusal::Year,
     }
 }

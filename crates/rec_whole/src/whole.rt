@@ -50,25 +50,29 @@ pub fn write_whole_file<F: PlacedRead, W: Write>(
     let Some(time_channel) = time_channel(listing) else {
         return Err(WholeEnd::Refused(WholeRefusal::Full));
     };
-    let channels = setup_channels(alloc, listing, names.channels)?;
-    let setup = file_setup(names, time_channel, channels.as_slice());
+    let ids = listing.channels(alloc)?;
+    let channels = setup_channels(alloc, &ids, names.channels)?;
+    let setup = file_setup(names, time_channel, channels.as_slice(), true);
     write_with_setup(alloc, file, listing, &setup, clock, most, out)
 }
 
-/// What the setup record of a whole file says.
-fn file_setup<'a>(
+/// What the setup record says of a recording with these channels, with an index or without.
+pub fn file_setup<'a>(
     names: &FileNames<'a>,
     time_channel: u16,
     channels: &'a [SetupChannel<'a>],
+    is_indexed: bool,
 ) -> FileSetup<'a>
     ensures names { SaysNames names.now result }
     ensures time_channel { result.time_channel ≡ time_channel }
     ensures channels { result.channels.now ≡ channels.now }
+    ensures indexed { result.is_indexed ≡ is_indexed }
 {
     FileSetup {
         host: names.host,
         program: names.program,
         is_external: names.is_external,
+        is_indexed,
         time_channel,
         channels,
         attributes: names.attributes,

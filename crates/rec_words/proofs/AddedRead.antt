@@ -12,7 +12,8 @@ use Rattle.toml.specs.Parse.{parse_document}
 use Rattle.ch11_setup.specs.Attributes.{AttributeData, attribute_of, cut_at, Lacks}
 use Rattle.rec_words.specs.Settings.{Fault, syntax, only}
 use Rattle.rec_words.specs.ReservedNames.{is_reserved}
-use Rattle.rec_words.specs.SetupFile.{FileData, file_keys, text_or, truth_or, origins_in, is_attribute_byte, attribute_with, attribute_said, attributes_said}
+use Rattle.rec_words.specs.SetupFile.{FileData, file_keys, text_or, truth_or, unknown_scale, origins_in}
+use Rattle.rec_words.specs.SetupFile.{is_attribute_byte, attribute_with, attribute_said, attributes_said}
 use Rattle.rec_words.specs.SetupFile.{all_attributes, attributes_of, attributes_in, setup_channels_in, file_in, setup_file, CanBeAdded}
 use Rattle.rec_words.proofs.KeysRead.{then_says}
 use Rattle.rec_words.proofs.ReservedRead.{cut_parts, reserved_from}
@@ -151,13 +152,14 @@ FileCan file = AllCan file.attributes
 file_can : (m : Members) → MatchResult (file_in m) FileCan Any
 file_can m =
     then_says FileCan (only file_keys m) _ (anything (only file_keys m)) (λ ms _.
-    then_says FileCan (origins_in m) _ (anything (origins_in m)) (λ origins _.
+    then_says FileCan (unknown_scale m) _ (anything (unknown_scale m)) (λ unknown _.
+    then_says FileCan (origins_in unknown m) _ (anything (origins_in unknown m)) (λ origins _.
     then_says FileCan (text_or (codes "bpfrec") (codes "host") m) _ (anything (text_or (codes "bpfrec") (codes "host") m)) (λ host _.
     then_says FileCan (text_or (codes "bpfrec") (codes "program") m) _ (anything (text_or (codes "bpfrec") (codes "program") m)) (λ program _.
     then_says FileCan (truth_or false (codes "external") m) _ (anything (truth_or false (codes "external") m)) (λ is_external _.
     then_says FileCan (attributes_in m) _ (attributes_can m) (λ attributes can.
     then_says FileCan (setup_channels_in m) _ (anything (setup_channels_in m)) (λ channels _. can)
-    (λ f _. tt)) (λ f _. tt)) (λ f _. tt)) (λ f _. tt)) (λ f _. tt)) (λ f _. tt)) (λ f _. tt)
+    (λ f _. tt)) (λ f _. tt)) (λ f _. tt)) (λ f _. tt)) (λ f _. tt)) (λ f _. tt)) (λ f _. tt)) (λ f _. tt)
 
 pub added_can : (text : List ℕ) (file : FileData) → setup_file text ≡ Ok file → AllByRecursion CanBeAdded file.attributes
 added_can text file is = by (parse_document text) is

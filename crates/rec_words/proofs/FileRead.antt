@@ -22,15 +22,17 @@ use Rattle.rec_words.specs.Format.{AreDistinctIds}
 use Rattle.rec_words.specs.SetupFile.{OriginData, ChannelSetupData, FileData, file_keys, origin_keys, setup_channel_keys, most_of_48_bits, most_origins}
 use Rattle.rec_words.specs.SetupFile.{text_or, truth_or, truth_in, tables_of, each_after, time_told_in, origin_in, enough_origins, noted_origins, single_origin}
 use Rattle.rec_words.specs.SetupFile.{origins_by, origins_in, new_id, setup_channel_in, setup_channels_of}
+use Rattle.rec_words.specs.SetupFile.{ahead_in, unknown_scale, in_utc, is_too_early, origin_unless}
 use Rattle.rec_words.specs.SetupFile.{setup_channels_in, attributes_in, file_in, setup_file}
 use Rattle.rec_words.specs.SetupFormat.{IsText, IsTruth, SaysTime, IsNotedOrigin, AreOrigins, AreAdded, IsFileChannel, AreFileChannels}
-use Rattle.rec_words.specs.SetupFormat.{setup_ids, SaysAttribute, IsFile, IsFileOf}
+use Rattle.rec_words.specs.SetupFormat.{IsSaidOfUnknown, setup_ids, SaysAttribute, IsFile, IsFileOf}
 use Rattle.rec_words.specs.SetupFile.{is_attribute_byte, attribute_with, attribute_said, attributes_said, all_attributes, attributes_of}
 use Rattle.rec_words.specs.ReservedNames.{is_reserved}
 use Rattle.rec_words.proofs.AddedRead.{said_is}
 use Rattle.rec_words.proofs.ReservedRead.{cut_parts}
 use Rattle.rec_words.proofs.FormatRead.{distinct_push}
 use Rattle.rec_words.proofs.KeysRead.{then_says, outcome, only_says, number_required, number_or_says}
+use Rattle.rec_words.proofs.ScalesRead.{ahead_says, scale_says}
 use Rattle.rec_words.proofs.SettingsRead.{any_of_map}
 
 abbrev Whatever : Fault → Type 0
@@ -113,14 +115,31 @@ time_required m = by (get_member (codes "origin") m) refl
     by (Some d) is = outcome (time_told_in (codes "origin") d) (λ nanos says. (says.0, is ∙ ap (λ x. Some x) says.1, says.2)) (λ f _. tt)
         (time_says (codes "origin") d)
 
-noted : (m : Members) → MatchResult (origin_in m) (IsNotedOrigin m) Whatever
-noted m =
-    then_says (IsNotedOrigin m) (only origin_keys m) _ (only_says origin_keys m) (λ ms has.
-    then_says (IsNotedOrigin m) (required (number_in 0 most_of_48_bits (codes "counter")) (codes "counter") m) _
+unless_says : (is_early : Bool) (counter : ℕ) (nanos : ℤ)
+    → MatchResult (origin_unless is_early counter nanos) (λ origin. origin ≡ record { counter = counter; nanos = nanos }) Whatever
+unless_says true counter nanos = tt
+unless_says false counter nanos = refl
+
+noted : (unknown : Option ℕ) (m : Members) → MatchResult (origin_in unknown m) (IsNotedOrigin unknown m) Whatever
+noted unknown m =
+    then_says (IsNotedOrigin unknown m) (only origin_keys m) _ (only_says origin_keys m) (λ ms has.
+    then_says (IsNotedOrigin unknown m) (required (number_in 0 most_of_48_bits (codes "counter")) (codes "counter") m) _
     (number_required 0 most_of_48_bits (codes "counter") m) (λ counter n.
-    then_says (IsNotedOrigin m) (required (time_told_in (codes "origin")) (codes "origin") m) _ (time_required m) (λ nanos t.
-    record { only = has; counter_is = n.1 ∙ ap (λ x. Some x) n.2.0; counter_fits = n.2.2; time_is = t })
-    (λ f _. tt)) (λ f _. tt)) (λ f _. tt)
+    then_says (IsNotedOrigin unknown m) (required (time_told_in (codes "origin")) (codes "origin") m) _ (time_required m) (λ told t.
+    then_says (IsNotedOrigin unknown m) (ahead_in unknown m) _ (ahead_says unknown m) (λ ahead a.
+    outcome (origin_unless (is_too_early (in_utc told ahead)) counter (in_utc told ahead))
+    (λ origin o. subst (IsNotedOrigin unknown m) (sym o) (record {
+      told = told;
+      ahead = ahead;
+      only = has;
+      counter_is = n.1 ∙ ap (λ x. Some x) n.2.0;
+      counter_fits = n.2.2;
+      time_is = t;
+      scale_is = a;
+      in_utc = refl;
+    }))
+    (λ f _. tt) (unless_says (is_too_early (in_utc told ahead)) counter (in_utc told ahead)))
+    (λ f _. tt)) (λ f _. tt)) (λ f _. tt)) (λ f _. tt)
 
 -- what was read of these tables, behind what was read before
 abbrev Behind : {B : Type 0} → (Members → B → Type 0) → List B → List Members → List B → Type 0
@@ -130,13 +149,14 @@ behind_more : {B : Type 0} (Is : Members → B → Type 0) (before : List B) (m 
     → Behind Is (before ++ one ∷ []) tables all → Behind Is before (m ∷ tables) all
 behind_more Is before m tables one all is later = (one ∷ later.0, later.1 ∙ append_assoc before (one ∷ []) later.0, (is, later.2))
 
-each_noted : (before : List OriginData) (tables : List Members)
-    → MatchResult (each_after (λ _ m. origin_in m) before tables) (Behind IsNotedOrigin before tables) Whatever
-each_noted before [] = ([], sym (append-nil before), tt)
-each_noted before (m ∷ tables) =
-    then_says (Behind IsNotedOrigin before (m ∷ tables)) (origin_in m) _ (noted m) (λ one is.
-    outcome (each_after (λ _ m. origin_in m) (before ++ one ∷ []) tables) (λ all later. behind_more IsNotedOrigin before m tables one all is later) (λ f _. tt)
-    (each_noted (before ++ one ∷ []) tables))
+each_noted : (unknown : Option ℕ) (before : List OriginData) (tables : List Members)
+    → MatchResult (each_after (λ _ m. origin_in unknown m) before tables) (Behind (IsNotedOrigin unknown) before tables) Whatever
+each_noted unknown before [] = ([], sym (append-nil before), tt)
+each_noted unknown before (m ∷ tables) =
+    then_says (Behind (IsNotedOrigin unknown) before (m ∷ tables)) (origin_in unknown m) _ (noted unknown m) (λ one is.
+    outcome (each_after (λ _ m. origin_in unknown m) (before ++ one ∷ []) tables)
+    (λ all later. behind_more (IsNotedOrigin unknown) before m tables one all is later) (λ f _. tt)
+    (each_noted unknown (before ++ one ∷ []) tables))
     (λ f _. tt)
 
 enough_says : (tables : List Members)
@@ -151,18 +171,19 @@ enough_says tables = by (nat_le 1 (length tables) && nat_le (length tables) most
         let both = and_parts (nat_le 1 (length tables)) (nat_le (length tables) most_origins) is in
         (refl, leb-true 1 (length tables) both.0, leb-true (length tables) most_origins both.1)
 
-abbrev NotedIn : Data → List OriginData → Type 0
-NotedIn d origins = (tables : List Members) × AreIn d tables × (1 ≤ length tables) × (length tables ≤ most_origins) × AllZip IsNotedOrigin tables origins
+abbrev NotedIn : (unknown : Option ℕ) → Data → List OriginData → Type 0
+NotedIn unknown d origins =
+    (tables : List Members) × AreIn d tables × (1 ≤ length tables) × (length tables ≤ most_origins) × AllZip (IsNotedOrigin unknown) tables origins
 
-noted_say : (d : Data) → MatchResult (noted_origins d) (NotedIn d) Whatever
-noted_say d =
-    then_says (NotedIn d) (tables_of (codes "origins") d) _ (tables_say (codes "origins") d) (λ tables are.
-    then_says (NotedIn d) (enough_origins tables) _ (enough_says tables) (λ ts enough.
-    outcome (each_after (λ _ m. origin_in m) [] ts)
+noted_say : (unknown : Option ℕ) (d : Data) → MatchResult (noted_origins unknown d) (NotedIn unknown d) Whatever
+noted_say unknown d =
+    then_says (NotedIn unknown d) (tables_of (codes "origins") d) _ (tables_say (codes "origins") d) (λ tables are.
+    then_says (NotedIn unknown d) (enough_origins tables) _ (enough_says tables) (λ ts enough.
+    outcome (each_after (λ _ m. origin_in unknown m) [] ts)
     (λ all behind.
-    let zip = subst (AllZip IsNotedOrigin ts) (sym behind.1) behind.2 in
-    (tables, are, enough.1, enough.2, subst (λ l. AllZip IsNotedOrigin l all) enough.0 zip))
-    (λ f _. tt) (each_noted [] ts))
+    let zip = subst (AllZip (IsNotedOrigin unknown) ts) (sym behind.1) behind.2 in
+    (tables, are, enough.1, enough.2, subst (λ l. AllZip (IsNotedOrigin unknown) l all) enough.0 zip))
+    (λ f _. tt) (each_noted unknown [] ts))
     (λ f _. tt)) (λ f _. tt)
 
 single_says : (d : Data) → MatchResult (single_origin d) (λ origins. (nanos : ℤ) × SaysIt d nanos × (origins ≡ record { counter = 0; nanos = nanos } ∷ []))
@@ -170,16 +191,16 @@ single_says : (d : Data) → MatchResult (single_origin d) (λ origins. (nanos :
 single_says d = then_says (λ origins. (nanos : ℤ) × SaysIt d nanos × (origins ≡ record { counter = 0; nanos = nanos } ∷ [])) (time_told_in (codes "origin") d) _
     (time_says (codes "origin") d) (λ nanos says. (nanos, says, refl)) (λ f _. tt)
 
-origins_say : (m : Members) → MatchResult (origins_in m) (AreOrigins m) Whatever
-origins_say m = by (get_member (codes "origin") m) (get_member (codes "origins") m) refl refl
+origins_say : (unknown : Option ℕ) (m : Members) → IsSaidOfUnknown m unknown → MatchResult (origins_in unknown m) (AreOrigins m) Whatever
+origins_say unknown m said = by (get_member (codes "origin") m) (get_member (codes "origins") m) refl refl
   where
     by : (one many : Option Data) → get_member (codes "origin") m ≡ one → get_member (codes "origins") m ≡ many
-        → MatchResult (origins_by one many) (AreOrigins m) Whatever
+        → MatchResult (origins_by unknown one many) (AreOrigins m) Whatever
     by None None is are = tt
     by (Some d) None is are = outcome (single_origin d)
         (λ origins h. inl (h.0, (h.1.0, is ∙ ap (λ x. Some x) h.1.1, h.1.2), are, h.2)) (λ f _. tt) (single_says d)
-    by None (Some d) is are = outcome (noted_origins d)
-        (λ origins h. inr (h.0, is, (h.1.0, are ∙ ap (λ x. Some x) h.1.1, h.1.2), h.2, h.3, h.4)) (λ f _. tt) (noted_say d)
+    by None (Some d) is are = outcome (noted_origins unknown d)
+        (λ origins h. inr (unknown, h.0, said, is, (h.1.0, are ∙ ap (λ x. Some x) h.1.1, h.1.2), h.2, h.3, h.4)) (λ f _. tt) (noted_say unknown d)
     by (Some one) (Some many) is are = then_says (AreOrigins m) (single_origin one) _ (single_says one) (λ origins h. tt) (λ f _. tt)
 
 -- ---- attributes
@@ -316,7 +337,8 @@ channels_say m = by (get_member (codes "channel") m) refl
 file_says : (m : Members) → MatchResult (file_in m) (IsFile m) Whatever
 file_says m =
     then_says (IsFile m) (only file_keys m) _ (only_says file_keys m) (λ ms has.
-    then_says (IsFile m) (origins_in m) _ (origins_say m) (λ origins o.
+    then_says (IsFile m) (unknown_scale m) _ (scale_says m) (λ unknown u.
+    then_says (IsFile m) (origins_in unknown m) _ (origins_say unknown m u) (λ origins o.
     then_says (IsFile m) (text_or (codes "bpfrec") (codes "host") m) _ (text_or_says (codes "host") (codes "bpfrec") m) (λ host h.
     then_says (IsFile m) (text_or (codes "bpfrec") (codes "program") m) _ (text_or_says (codes "program") (codes "bpfrec") m) (λ program p.
     then_says (IsFile m) (truth_or false (codes "external") m) _ (truth_or_says (codes "external") false m) (λ is_external e.
@@ -332,7 +354,7 @@ file_says m =
       channels_are = c.0;
       distinct = c.1;
     })
-    (λ f _. tt)) (λ f _. tt)) (λ f _. tt)) (λ f _. tt)) (λ f _. tt)) (λ f _. tt)) (λ f _. tt)
+    (λ f _. tt)) (λ f _. tt)) (λ f _. tt)) (λ f _. tt)) (λ f _. tt)) (λ f _. tt)) (λ f _. tt)) (λ f _. tt)
 
 pub file_is : (text : List ℕ) (file : FileData) → setup_file text ≡ Ok file → IsFileOf text file
 file_is text file is = by (parse_document text) refl is

@@ -5,5 +5,6 @@ pub mod FormatRead
 pub mod SetupRead
 pub mod ReservedRead
 pub mod AddedRead
+pub mod ScalesRead
 pub mod FileRead
 pub mod SourcesSaid

@@ -116,8 +116,8 @@ channels_found : (n : ℕ) (channels : List SetupChannel) → AreFound (channels
 channels_found n [] = (refl, tt)
 channels_found n (channel ∷ channels) = (refl, (refl, (refl, (refl, (refl, (refl, (refl, (refl, (refl, channels_found (n + 1) channels)))))))))
 
-all_found : (setup : Setup) → AreFound (own_attributes setup)
-all_found setup = (
+found_with : (is_indexed : Bool) (setup : Setup) → AreFound (own_attributes (record setup { is_indexed = is_indexed }))
+found_with true setup = (
   refl,
   (
     refl,
@@ -157,25 +157,7 @@ all_found setup = (
                                       refl,
                                       (
                                         refl,
-                                        (
-                                          refl,
-                                          (
-                                            refl,
-                                            (
-                                              refl,
-                                              (
-                                                refl,
-                                                (
-                                                  refl,
-                                                  (
-                                                    refl,
-                                                    channels_found 2 setup.channels.now,
-                                                  ),
-                                                ),
-                                              ),
-                                            ),
-                                          ),
-                                        ),
+                                        (refl, (refl, (refl, (refl, (refl, (refl, channels_found 2 setup.channels.now)))))),
                                       ),
                                     ),
                                   ),
@@ -196,6 +178,70 @@ all_found setup = (
     ),
   ),
 )
+found_with false setup = (
+  refl,
+  (
+    refl,
+    (
+      refl,
+      (
+        refl,
+        (
+          refl,
+          (
+            refl,
+            (
+              refl,
+              (
+                refl,
+                (
+                  refl,
+                  (
+                    refl,
+                    (
+                      refl,
+                      (
+                        refl,
+                        (
+                          refl,
+                          (
+                            refl,
+                            (
+                              refl,
+                              (
+                                refl,
+                                (
+                                  refl,
+                                  (
+                                    refl,
+                                    (
+                                      refl,
+                                      (
+                                        refl,
+                                        (refl, (refl, (refl, (refl, channels_found 2 setup.channels.now)))),
+                                      ),
+                                    ),
+                                  ),
+                                ),
+                              ),
+                            ),
+                          ),
+                        ),
+                      ),
+                    ),
+                  ),
+                ),
+              ),
+            ),
+          ),
+        ),
+      ),
+    ),
+  ),
+)
+
+all_found : (setup : Setup) → AreFound (own_attributes setup)
+all_found setup = found_with setup.is_indexed setup
 
 found_are : (attributes : List AttributeData) → AreFound attributes → AreReserved attributes
 found_are [] h = tt

@@ -73,19 +73,20 @@ pub length_more : {A : Type 0} (xs : List A) (x : A) (k : ℕ) → length xs ≡
 length_more xs x k e = length_push xs x ∙ ap (λ n. n + 1) e
 
 -- there are no origins in no tables, and none in too many
-pub no_origins : (d : Data) (tables : List Members) (n : ℕ) → tables_of (codes "origins") d ≡ Ok tables → length tables ≡ n → n ≡ 0
-    → noted_origins d ≡ Err (value (codes "origins"))
-no_origins d tables n of e none = rw (of, e, none)
+pub no_origins : (unknown : Option ℕ) (d : Data) (tables : List Members) (n : ℕ) → tables_of (codes "origins") d ≡ Ok tables → length tables ≡ n → n ≡ 0
+    → noted_origins unknown d ≡ Err (value (codes "origins"))
+no_origins unknown d tables n of e none = rw (of, e, none)
 
-pub too_many_origins : (d : Data) (tables : List Members) (n : ℕ) → tables_of (codes "origins") d ≡ Ok tables → length tables ≡ n → most_origins < n
-    → noted_origins d ≡ Err (value (codes "origins"))
-too_many_origins d tables n of e many = rw (of, e) (search rules)
+pub too_many_origins : (unknown : Option ℕ) (d : Data) (tables : List Members) (n : ℕ) → tables_of (codes "origins") d ≡ Ok tables → length tables ≡ n
+    → most_origins < n
+    → noted_origins unknown d ≡ Err (value (codes "origins"))
+too_many_origins unknown d tables n of e many = rw (of, e) (search rules)
 
 -- else they are those of the tables
-pub origins_of_tables : (d : Data) (tables : List Members) (n : ℕ) → tables_of (codes "origins") d ≡ Ok tables → length tables ≡ n → 0 < n
-    → n ≤ most_origins → noted_origins d ≡ each_after (λ _ members. origin_in members) [] tables
-origins_of_tables d tables n of e some few =
-    rw of (ap (λ r. r >>= (λ ts. each_after (λ _ members. origin_in members) [] ts)) (enough tables n e some few))
+pub origins_of_tables : (unknown : Option ℕ) (d : Data) (tables : List Members) (n : ℕ) → tables_of (codes "origins") d ≡ Ok tables → length tables ≡ n → 0 < n
+    → n ≤ most_origins → noted_origins unknown d ≡ each_after (λ _ members. origin_in unknown members) [] tables
+origins_of_tables unknown d tables n of e some few =
+    rw of (ap (λ r. r >>= (λ ts. each_after (λ _ members. origin_in unknown members) [] ts)) (enough tables n e some few))
   where
     enough : (tables : List Members) (n : ℕ) → length tables ≡ n → 0 < n → n ≤ most_origins → enough_origins tables ≡ Ok tables
     enough tables n e some few = rw e (search rules)

@@ -1,5 +1,5 @@
 -- What the setup of a Chapter 11 file is: by the table of a TOML document, or the first fault in it.
-use Rattle.std.specs.Prelude.{ℕ, ℤ, Bool, false, ◌&&◌, ◌==◌, nat_le, if◌then◌else◌, List, [], ◌∷◌, ◌++◌, length}
+use Rattle.std.specs.Prelude.{ℕ, ◌*◌, ℤ, pos, negsuc, ◌-ℤ◌, Bool, false, ◌&&◌, ◌==◌, bytes_eq, nat_le, if◌then◌else◌, List, [], ◌∷◌, ◌++◌, length}
 use Rattle.std.specs.Prelude.{Option, None, Some, option_map, option_and_then, unwrap_or, Result, Ok, Err, codes, not, nat_lt}
 use Rattle.std.specs.List.{list_any, list_all}
 use Rattle.toml.specs.Data.{Data, string, boolean, array, Items, no_items, item, Members, as_str, get_member}
@@ -34,11 +34,11 @@ pub record FileData : Type 0 where
 -- the keys of the document, those of an origin, and those of a channel
 abbrev pub file_keys : List (List ℕ)
 file_keys =
-    codes "origin" ∷ codes "origins" ∷ codes "host" ∷ codes "program" ∷ codes "external"
-    ∷ codes "attributes" ∷ codes "channel" ∷ []
+    codes "scale" ∷ codes "tai_offset" ∷ codes "origin" ∷ codes "origins" ∷ codes "host"
+    ∷ codes "program" ∷ codes "external" ∷ codes "attributes" ∷ codes "channel" ∷ []
 
 abbrev pub origin_keys : List (List ℕ)
-origin_keys = codes "counter" ∷ codes "origin" ∷ []
+origin_keys = codes "counter" ∷ codes "origin" ∷ codes "scale" ∷ codes "tai_offset" ∷ []
 
 abbrev pub setup_channel_keys : List (List ℕ)
 setup_channel_keys = codes "id" ∷ codes "name" ∷ codes "net" ∷ []
@@ -87,15 +87,74 @@ each_after read before [] = Ok before
 each_after read before (one ∷ rest) =
     read before one >>= (λ found. each_after read (before ++ found ∷ []) rest)
 
+-- ---- time scales
+
+-- how many seconds TAI is ahead of UTC
+abbrev pub tai_offset_in : Members → Result ℕ Fault
+tai_offset_in members =
+    required (number_in 0 most_of_8_bits (codes "tai_offset")) (codes "tai_offset") members
+
+-- this, where no such number is set: it belongs to TAI alone
+abbrev pub without_offset : {A : Type 0} → A → Members → Result A Fault
+without_offset is members =
+    unwrap_or
+    (option_map (λ _. Err (value (codes "tai_offset"))) (get_member (codes "tai_offset") members))
+    (Ok is)
+
+-- how many seconds the scale of a name is ahead of UTC; one that isn't known is as far ahead as is said of all
+-- that aren't
+abbrev pub ahead_of : (unknown : Option ℕ) → (name : List ℕ) → Members → Result ℕ Fault
+ahead_of unknown name members =
+    if bytes_eq name (codes "UTC") then without_offset 0 members
+    else if bytes_eq name (codes "TAI") then tai_offset_in members
+    else if bytes_eq name (codes "unknown") then
+    unwrap_or (option_map (λ ahead. without_offset ahead members) unknown)
+    (Err (value (codes "scale")))
+    else Err (value (codes "scale"))
+
+-- the same of the scale that a key names
+abbrev pub ahead_told_in : (unknown : Option ℕ) → Members → Data → Result ℕ Fault
+ahead_told_in unknown table (string name) = ahead_of unknown name table
+ahead_told_in unknown table _ = Err (value (codes "scale"))
+
+-- how many seconds a table's scale is ahead of UTC, which it is if it isn't set
+abbrev pub ahead_in : (unknown : Option ℕ) → Members → Result ℕ Fault
+ahead_in unknown members =
+    unwrap_or (option_map (ahead_told_in unknown members) (get_member (codes "scale") members))
+    (without_offset 0 members)
+
+-- how far ahead scales are that aren't known, if that is said of all
+abbrev pub unknown_scale : Members → Result (Option ℕ) Fault
+unknown_scale members =
+    unwrap_or
+    (option_map (λ _. ahead_in None members >>= (λ ahead. Ok (Some ahead)))
+    (get_member (codes "scale") members))
+    (without_offset None members)
+
+-- a time of 10^12 seconds or more before 1970
+abbrev pub is_too_early : ℤ → Bool
+is_too_early (pos n) = false
+is_too_early (negsuc n) = nat_le 999_999_999_999_999_999_999 n
+
+-- a time in UTC, by a scale that is so many seconds ahead
+abbrev pub in_utc : (told : ℤ) → (ahead : ℕ) → ℤ
+in_utc told ahead = told -ℤ pos (ahead * 1_000_000_000)
+
+-- the origin from a counter on, unless its time is too early
+abbrev pub origin_unless : (is_early : Bool) → (counter : ℕ) → ℤ → Result OriginData Fault
+origin_unless is_early counter nanos =
+    if is_early then Err (value (codes "origin")) else Ok (record { counter = counter; nanos = nanos })
+
 -- ---- origins
 
 -- the origin in a table
-abbrev pub origin_in : Members → Result OriginData Fault
-origin_in members = do
+abbrev pub origin_in : (unknown : Option ℕ) → Members → Result OriginData Fault
+origin_in unknown members = do
   _ ← only origin_keys members
   counter ← required (number_in 0 most_of_48_bits (codes "counter")) (codes "counter") members
-  nanos ← required (time_told_in (codes "origin")) (codes "origin") members
-  Ok (record { counter = counter; nanos = nanos })
+  told ← required (time_told_in (codes "origin")) (codes "origin") members
+  ahead ← ahead_in unknown members
+  origin_unless (is_too_early (in_utc told ahead)) counter (in_utc told ahead)
 
 -- from one table to as many as there may be origins
 abbrev pub enough_origins : List Members → Result (List Members) Fault
@@ -104,30 +163,31 @@ enough_origins tables =
     else Err (value (codes "origins"))
 
 -- the origins in a list of tables
-abbrev pub noted_origins : Data → Result (List OriginData) Fault
-noted_origins found = do
+abbrev pub noted_origins : (unknown : Option ℕ) → Data → Result (List OriginData) Fault
+noted_origins unknown found = do
   tables ← tables_of (codes "origins") found
   tables ← enough_origins tables
-  each_after (λ _ members. origin_in members) [] tables
+  each_after (λ _ members. origin_in unknown members) [] tables
 
--- the one origin that holds from counter 0 on
+-- the one origin that holds from counter 0 on, in UTC
 abbrev pub single_origin : Data → Result (List OriginData) Fault
 single_origin found = do
   nanos ← time_told_in (codes "origin") found
   Ok (record { counter = 0; nanos = nanos } ∷ [])
 
 -- the origins, by what `origin` and `origins` have: one of the two must be set, and not both
-abbrev pub origins_by : (origin origins : Option Data) → Result (List OriginData) Fault
-origins_by None None = Err (missing (codes "origin"))
-origins_by None (Some many) = noted_origins many
-origins_by (Some one) None = single_origin one
-origins_by (Some one) (Some many) = do
+abbrev pub origins_by :
+    (unknown : Option ℕ) → (origin origins : Option Data) → Result (List OriginData) Fault
+origins_by unknown None None = Err (missing (codes "origin"))
+origins_by unknown None (Some many) = noted_origins unknown many
+origins_by unknown (Some one) None = single_origin one
+origins_by unknown (Some one) (Some many) = do
   _ ← single_origin one
   Err (value (codes "origins"))
 
-abbrev pub origins_in : Members → Result (List OriginData) Fault
-origins_in members =
-    origins_by (get_member (codes "origin") members) (get_member (codes "origins") members)
+abbrev pub origins_in : (unknown : Option ℕ) → Members → Result (List OriginData) Fault
+origins_in unknown members =
+    origins_by unknown (get_member (codes "origin") members) (get_member (codes "origins") members)
 
 -- ---- attributes
 
@@ -209,7 +269,8 @@ setup_channels_in members =
 abbrev pub file_in : Members → Result FileData Fault
 file_in members = do
   _ ← only file_keys members
-  origins ← origins_in members
+  unknown ← unknown_scale members
+  origins ← origins_in unknown members
   host ← text_or (codes "bpfrec") (codes "host") members
   program ← text_or (codes "bpfrec") (codes "program") members
   is_external ← truth_or false (codes "external") members

@@ -1,5 +1,5 @@
 -- The setup of a Chapter 11 file in its own words: what a text that has no fault says of a file.
-use Rattle.std.specs.Prelude.{ℕ, ℤ, pos, Bool, false, ◌≡◌, ◌≤◌, ◌⊎◌, List, [], ◌∷◌, ◌++◌, length, map, None, Some, codes}
+use Rattle.std.specs.Prelude.{ℕ, ◌*◌, ℤ, pos, ◌-ℤ◌, Bool, false, ◌≡◌, ◌≢◌, ◌≤◌, Option, ◌⊎◌, List, [], ◌∷◌, ◌++◌, length, map, None, Some, codes}
 use Rattle.std.specs.List.{AllZip}
 use Rattle.toml.specs.Data.{string, integer, boolean, array, Items, Members, get_member}
 use Rattle.toml.specs.Parse.{parse_document}
@@ -38,21 +38,52 @@ SaysTime members nanos =
     (written : List ℕ) × (get_member (codes "origin") members ≡ Some (string written))
     × SaysOrigin written nanos
 
--- this origin was noted in its table
-pub record IsNotedOrigin (members : Members) (origin : OriginData) : Type 0 where
+-- the key is set to this text
+abbrev pub IsSetToText : Members → (name text : List ℕ) → Type 0
+IsSetToText members name text = get_member name members ≡ Some (string text)
+
+-- it isn't set
+abbrev pub IsUnset : Members → (name : List ℕ) → Type 0
+IsUnset members name = get_member name members ≡ None
+
+-- the table's scale is UTC, by name or since none is set; or TAI, so many seconds ahead of UTC; or one that isn't
+-- known, of which is said how far ahead it is
+abbrev pub IsAhead : (unknown : Option ℕ) → Members → (ahead : ℕ) → Type 0
+IsAhead unknown members ahead =
+    ((IsUnset members (codes "scale") ⊎ IsSetToText members (codes "scale") (codes "UTC"))
+    × IsUnset members (codes "tai_offset") × (ahead ≡ 0))
+    ⊎ ((IsSetToText members (codes "scale") (codes "TAI")
+    × (get_member (codes "tai_offset") members ≡ Some (integer (pos ahead)))
+    × (ahead ≤ most_of_8_bits))
+    ⊎ (IsSetToText members (codes "scale") (codes "unknown")
+    × IsUnset members (codes "tai_offset") × (unknown ≡ Some ahead)))
+
+-- what is said of scales that aren't known: nothing, or what the document's own scale is
+abbrev pub IsSaidOfUnknown : Members → (unknown : Option ℕ) → Type 0
+IsSaidOfUnknown members None = IsUnset members (codes "scale") × IsUnset members (codes "tai_offset")
+IsSaidOfUnknown members (Some ahead) = (get_member (codes "scale") members ≢ None) × IsAhead None members ahead
+
+-- this origin, in UTC, was noted in its table by the table's scale
+pub record IsNotedOrigin (unknown : Option ℕ) (members : Members) (origin : OriginData) : Type 0 where
+  pub told : ℤ
+  pub ahead : ℕ
   pub only : HasOnly origin_keys members
   pub counter_is : get_member (codes "counter") members ≡ Some (integer (pos origin.counter))
   pub counter_fits : origin.counter ≤ most_of_48_bits
-  pub time_is : SaysTime members origin.nanos
+  pub time_is : SaysTime members told
+  pub scale_is : IsAhead unknown members ahead
+  pub in_utc : origin.nanos ≡ told -ℤ pos (ahead * 1_000_000_000)
 
--- one origin, from counter 0 on; or those that were noted, in order
+-- one origin, from counter 0 on, in UTC; or those that were noted, in order
 abbrev pub AreOrigins : Members → List OriginData → Type 0
 AreOrigins members origins =
     ((nanos : ℤ) × SaysTime members nanos × (get_member (codes "origins") members ≡ None)
     × (origins ≡ record { counter = 0; nanos = nanos } ∷ []))
-    ⊎ ((tables : List Members) × (get_member (codes "origin") members ≡ None)
+    ⊎ ((unknown : Option ℕ) × (tables : List Members) × IsSaidOfUnknown members unknown
+    × (get_member (codes "origin") members ≡ None)
     × IsSetToTables members (codes "origins") tables
-    × (1 ≤ length tables) × (length tables ≤ most_origins) × AllZip IsNotedOrigin tables origins)
+    × (1 ≤ length tables) × (length tables ≤ most_origins)
+    × AllZip (IsNotedOrigin unknown) tables origins)
 
 -- the text is the attribute's name, a colon and its value
 abbrev pub SaysAttribute : List ℕ → AttributeData → Type 0

@@ -9,19 +9,22 @@ mod origins;
 mod parts;
 mod reading;
 mod reserved;
+mod scales;
 
 use ch11_clock::Origin;
 pub use fault::SetupFault;
 pub use reading::setup_of;
 
-/// What is said of a Chapter 11 file. The document's top has the keys `origin` or `origins`,
+/// What is said of a Chapter 11 file. The document's top has the keys `scale`, `tai_offset`, `origin` or `origins`,
 /// `host`, `program`, `external`, `attributes` and `channel`, and each table of `channel` the keys
 /// of [`ChannelSetup`].
 #[derive(Drop)]
 pub struct FileSettings {
-    /// 1 to 65,536 origins of the clock, in the order in which they were noted: the tables of
-    /// `origins`, each with a `counter` and an `origin`; or `origin` alone, from counter 0 on. One
-    /// of the two must be set.
+    /// 1 to 65,536 origins of the clock, in UTC and in the order in which they were noted: the tables of
+    /// `origins`, each with a `counter` and an `origin`, and with the `scale` that it is in ("UTC" if it
+    /// isn't set, "TAI", "unknown"), of TAI with `tai_offset`, the seconds by which TAI is ahead; or
+    /// `origin` alone, in UTC from counter 0 on. One of the two must be set. `scale` and `tai_offset` of the
+    /// top say what an unknown scale is.
     pub origins: Vec<Origin>,
     /// The computer that recorded; `bpfrec` if it isn't set.
     pub host: String,

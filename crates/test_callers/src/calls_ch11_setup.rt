@@ -21,6 +21,7 @@ pub fn setup_of_one_channel(
         time,
         time_channel: if channel == 1 { 2 } else { 1 },
         is_external: false,
+        is_indexed: true,
         channels: &[SetupChannel {
             id: channel,
             name: "channel",

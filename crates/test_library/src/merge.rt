@@ -34,60 +34,43 @@ fn frames<'a>(
     Ok(frames)
 }
 
-/// The numbers of frames of the pieces that a source gives, of which each is taken up to a tick: that many
-/// times the first tick, then the second.
-fn lens(alloc: Global, frames: &[ReadFrame<'_>], ticks: &[u64]) -> Result<Vec<usize>, Fail> {
-    let mut source = FramesSource::new(frames);
+/// The numbers of frames of the pieces of these.
+fn lens(alloc: Global, frames: &[ReadFrame<'_>]) -> Result<Vec<usize>, Fail> {
     let mut lens = Vec::new(alloc);
-    for &tick in ticks {
-        if let Head::At(counter) = source.head()
-            && counter < tick
-        {
-            lens.push(source.take(tick)?.len())?;
+    let mut piece = PieceSoFar::before(0);
+    let mut len = 0;
+    for frame in frames {
+        if len > 0 && !piece.goes_on(frame) {
+            lens.push(len)?;
+            len = 0;
         }
+        if len == 0 {
+            piece = PieceSoFar::before(frame.counter);
+        }
+        piece = piece.with(frame);
+        len += 1;
     }
+    lens.push(len)?;
     Ok(lens)
 }
 
-/// The greatest tick, which no counter reaches.
-const NEVER: u64 = u64::MAX;
-
-/// Counters of frames, the ticks up to which pieces are taken, and the numbers of their frames.
-const CUTS: [(&[u32], &[u64], &[usize]); 10] = [
-    (&[], &[NEVER], &[]),
-    (&[7], &[NEVER, NEVER], &[1]),
-    (&[7, 7, 8], &[NEVER, NEVER], &[3]),
+/// Counters of frames, and the numbers of frames of their pieces.
+const CUTS: [(&[u32], &[usize]); 6] = [
+    (&[7], &[1]),
+    (&[7, 7, 8], &[3]),
     // 100 ms behind the first frame
-    (&[5, 1_000_004], &[NEVER, NEVER], &[2]),
-    (&[5, 1_000_005], &[NEVER, NEVER, NEVER], &[1, 1]),
-    (
-        &[5, 600_000, 1_000_005, 1_600_000],
-        &[NEVER, NEVER, NEVER],
-        &[2, 2],
-    ),
+    (&[5, 1_000_004], &[2]),
+    (&[5, 1_000_005], &[1, 1]),
+    (&[5, 600_000, 1_000_005, 1_600_000], &[2, 2]),
     // a step back
-    (&[9, 10, 9, 9, 12], &[NEVER, NEVER, NEVER], &[2, 3]),
-    // a time packet at 10: the frames from it on stay, and their piece ends where it did
-    (&[5, 9, 10, 11], &[10, NEVER, NEVER], &[2, 2]),
-    (
-        &[5, 900_000, 1_000_004, 1_000_005],
-        &[10, NEVER, NEVER, NEVER],
-        &[1, 2, 1],
-    ),
-    (
-        &[5, 900_000, 1_000_005, 1_900_000],
-        &[900_000, NEVER, NEVER],
-        &[1, 1, 2],
-    ),
+    (&[9, 10, 9, 9, 12], &[2, 3]),
 ];
 
 #[test]
-fn frames_are_cut_at_100_ms_at_a_step_back_and_at_time_packets(
-    rt: HostRuntime,
-) -> Result<(), Fail> {
-    for &(counters, ticks, wanted) in &CUTS {
+fn frames_are_cut_at_100_ms_and_at_a_step_back(rt: HostRuntime) -> Result<(), Fail> {
+    for &(counters, wanted) in &CUTS {
         let frames = frames(rt.alloc(), counters, &[])?;
-        let found = lens(rt.alloc(), frames.as_slice(), ticks)?;
+        let found = lens(rt.alloc(), frames.as_slice())?;
         assert!(rt; found.as_slice() == wanted);
     }
     Ok(())
@@ -110,11 +93,14 @@ fn frames_are_cut_where_the_packet_would_be_over_524288_bytes(rt: HostRuntime) -
 fn lens_behind<'a>(alloc: Global, bytes: &'a [u8], last: &'a [u8]) -> Result<Vec<usize>, Fail> {
     let mut all = frames(alloc, &[1; 32], bytes)?;
     all.push(frame(1, last).ok_or("a frame in range")?)?;
-    lens(alloc, all.as_slice(), &[NEVER, NEVER, NEVER])
+    lens(alloc, all.as_slice())
 }
 
 /// Lengths of a frame behind 32 of 16,370 bytes, and the numbers of frames of the pieces.
 const LAST_FRAMES: [(usize, &[usize]); 3] = [(19, &[33]), (20, &[33]), (21, &[32, 1])];
+
+/// The greatest tick, which no counter reaches.
+const NEVER: u64 = u64::MAX;
 
 /// The tick of the time packet behind that of a tick: there are those of 100 and 200, and no more.
 fn tick_behind(tick: u64) -> u64 {
@@ -177,6 +163,10 @@ impl<'a> PieceSource for Records<'a> {
 
     fn head(&self) -> Head {
         self.head
+    }
+
+    fn place(&self) -> u64 {
+        0
     }
 
     fn take(&mut self, _tick: u64) -> Result<Head, PieceFault> {
@@ -274,44 +264,5 @@ fn records_are_merged_by_counter_and_then_by_channel(rt: HostRuntime) -> Result<
         let rows = rows_of(rt.alloc(), records)?;
         assert!(rt; rows.as_slice() == wanted);
     }
-    Ok(())
-}
-
-#[test]
-fn frames_are_merged_and_cut_by_time_packets(rt: HostRuntime) -> Result<(), Fail> {
-    let one = frames(rt.alloc(), &[90, 95, 105, 110], &[])?;
-    let two = frames(rt.alloc(), &[93, 99, 100, 205, 206], &[])?;
-    let mut sources = Vec::new(rt.alloc());
-    for (channel, frames) in [(7, one.as_slice()), (5, two.as_slice())] {
-        let source = FramesSource::new(frames);
-        sources.push(MergedChannel { channel, source })?;
-    }
-    let mut channels = MergedChannels::new(rt.alloc(), sources)?;
-    let mut tick = 100;
-    let mut rows = Vec::new(rt.alloc());
-    for _ in 0..8 {
-        match next_placed(&mut channels, tick)? {
-            Some(Placed::Time { tick: time }) => {
-                rows.push((0, time, 0))?;
-                tick = tick_behind(time);
-            }
-            Some(Placed::Piece { channel, piece }) => {
-                if let Some(frame) = piece.first() {
-                    rows.push((channel, frame.counter, piece.len()))?;
-                }
-            }
-            None => {}
-        }
-    }
-    let wanted = [
-        (7, 90, 2),
-        (5, 93, 2),
-        (0, 100, 0),
-        (5, 100, 1),
-        (7, 105, 2),
-        (0, 200, 0),
-        (5, 205, 2),
-    ];
-    assert!(rt; rows.as_slice() == wanted.as_slice());
     Ok(())
 }

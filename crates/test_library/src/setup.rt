@@ -90,6 +90,7 @@ fn text_of(
         time,
         time_channel: 2,
         is_external,
+        is_indexed: true,
         channels,
         attributes,
     };

@@ -108,6 +108,109 @@ fn what_is_not_set_has_its_default_and_the_first_fault_is_reported(
     Ok(())
 }
 
+/// What stands at the top, what stands in the table of an origin of 100 seconds, and the nanoseconds that it is in UTC.
+const SCALES: [(&str, &str, &str); 22] = [
+    ("", "scale = \"UTC\"", "100000000000"),
+    ("", "scale = \"TAI\", tai_offset = 0", "100000000000"),
+    ("", "tai_offset = 37, scale = \"TAI\"", "63000000000"),
+    ("", "scale = \"TAI\", tai_offset = 255", "-155000000000"),
+    ("scale = \"UTC\"", "scale = \"unknown\"", "100000000000"),
+    (
+        "scale = \"TAI\"\ntai_offset = 37",
+        "scale = \"unknown\"",
+        "63000000000",
+    ),
+    (
+        "scale = \"TAI\"\ntai_offset = 37",
+        "scale = \"UTC\"",
+        "100000000000",
+    ),
+    (
+        "scale = \"TAI\"\ntai_offset = 37",
+        "host = 1",
+        "setup 2 Unknown host",
+    ),
+    (
+        "scale = \"TAI\"\ntai_offset = 37",
+        "scale = \"TAI\", tai_offset = 36",
+        "64000000000",
+    ),
+    ("", "scale = \"unknown\"", "setup 4 Value scale"),
+    (
+        "",
+        "scale = \"tai\", tai_offset = 37",
+        "setup 4 Value scale",
+    ),
+    ("", "scale = 1", "setup 4 Value scale"),
+    ("", "scale = \"TAI\"", "setup 3 Missing tai_offset"),
+    ("", "tai_offset = 37", "setup 4 Value tai_offset"),
+    (
+        "",
+        "scale = \"UTC\", tai_offset = 0",
+        "setup 4 Value tai_offset",
+    ),
+    (
+        "scale = \"UTC\"",
+        "scale = \"unknown\", tai_offset = 0",
+        "setup 4 Value tai_offset",
+    ),
+    (
+        "",
+        "scale = \"TAI\", tai_offset = 256",
+        "setup 4 Value tai_offset",
+    ),
+    (
+        "",
+        "scale = \"TAI\", tai_offset = -1",
+        "setup 4 Value tai_offset",
+    ),
+    ("scale = \"unknown\"", "scale = 1", "setup 4 Value scale"),
+    ("scale = \"TAI\"", "scale = 1", "setup 3 Missing tai_offset"),
+    ("tai_offset = 37", "scale = 1", "setup 4 Value tai_offset"),
+    (
+        "scale = \"UTC\"\ntai_offset = 37",
+        "scale = 1",
+        "setup 4 Value tai_offset",
+    ),
+];
+
+#[test]
+fn an_origin_is_in_utc_whatever_its_scale(rt: HostRuntime) -> Result<(), Fail> {
+    for &(top, table, line) in &SCALES {
+        let text = format!(in rt.alloc();
+            "{top}\norigins = [{{ counter = 7, origin = \"100\", {table} }}]"
+        )?;
+        let wanted = if line.starts_with("setup") {
+            format!(in rt.alloc(); "{line}")?
+        } else {
+            format!(in rt.alloc(); "7 {line} / bpfrec bpfrec false")?
+        };
+        check(&rt, text.as_str(), wanted.as_str())?;
+    }
+    Ok(())
+}
+
+/// A time that is too early by its scale, and one that isn't; the scale of the top is none of `origin`.
+#[test]
+fn a_time_lies_less_than_10_to_the_12_seconds_from_1970_in_utc(
+    rt: HostRuntime,
+) -> Result<(), Fail> {
+    for (offset, line) in [
+        (0, "0 -999999999999999999999 / bpfrec bpfrec false"),
+        (1, "setup 4 Value origin"),
+    ] {
+        let text = format!(in rt.alloc();
+            "origins = [{{ counter = 0, origin = \"-999999999999.999999999\", scale = \"TAI\", tai_offset = {offset} }}]"
+        )?;
+        check(&rt, text.as_str(), line)?;
+    }
+    check(
+        &rt,
+        "scale = \"TAI\"\ntai_offset = 37\norigin = \"100\"",
+        "0 100000000000 / bpfrec bpfrec false",
+    )
+}
+
 /// Values of `origin`, and the nanoseconds that they are.
 const ORIGINS: [(&str, &str); 13] = [
     (
@@ -157,7 +260,7 @@ const NOTED: [(&str, &str); 12] = [
     ("{counter = -1, origin = 3}", "setup 4 Value counter"),
     ("{counter = 1, origin = 3}", "setup 4 Value origin"),
     (
-        "{counter = -1, zone = 1, scale = 1}",
+        "{counter = -1, zone = 1, offset = 1}",
         "setup 2 Unknown scale",
     ),
     ("1", "setup 4 Value origins"),

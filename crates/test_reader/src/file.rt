@@ -90,6 +90,7 @@ fn setup_of<'a>(channels: &'a [SetupChannel<'a>]) -> FileSetup<'a> {
         host: "bpfrec",
         program: "bpfrec",
         is_external: false,
+        is_indexed: true,
         time_channel: 2,
         channels,
         attributes: &[],
@@ -324,7 +325,7 @@ fn over_a_second_behind_is_disorder_and_over_a_week_ahead_a_gap(
 #[test]
 fn a_time_packet_that_goes_out_has_a_year_to_3999(rt: HostRuntime) -> Result<(), Fail> {
     let alloc = rt.alloc();
-    let year = Some(FileEnd::Refused(Refusal::Year { at: 0 }));
+    let year = Some(FileEnd::Refused(Refusal::Year));
     let rows = [
         (LAST_MOMENT, 99_999, None),
         (LAST_MOMENT, 100_000, year),

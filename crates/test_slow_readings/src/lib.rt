@@ -17,6 +17,7 @@ mod pieces;
 mod search;
 #[cfg(test)]
 mod shared;
+#[cfg(test)]
 mod standing;
 #[cfg(test)]
 mod tests;

@@ -1,4 +1,4 @@
-"""Runs the first recordings of README.md, by the program that is tried: the second command, what looks at its recording,
+"""Runs the first recordings of README.md, by the program that is tried: the third command, what looks at its recording,
 and those of an interface. What they print is compared."""
 
 import os
@@ -8,12 +8,14 @@ from pathlib import Path
 
 import pytest
 from namespace import send_numbered, set_link
-from support import BPFREC, CONVERT, ROOT, Running, judge, missing, outcome, run, wait_for
+from support import BPFREC, ROOT, Running, judge, missing, outcome, run, wait_for
 
 WANTED = {"bin/bpfrec": "make build"}
 README = (ROOT / "README.md").read_text()
 UNPROVED = "bin/bpfrec-unproved"
 COUNT = 100
+# What the second command sets.
+NAMES = "export PATH=$PWD/host/bin:$PATH BPFREC=$PWD/bin/bpfrec-unproved"
 
 
 @pytest.fixture
@@ -28,9 +30,9 @@ def place(work: Path) -> Path:
 
 
 def first_recording() -> tuple[str, str]:
-    """The second command of the first recording, and what README says that it prints."""
+    """The second and the third command of the first recording, and what README says that they print."""
     found = re.search(r"```sh\nmake try\n(.*)\n```\n.*?```text\n(.*?)```\n", README, re.DOTALL)
-    judge("README begins with two commands", found is not None and "\n" not in found[1])
+    judge("README begins with three commands", found is not None and found[1].count("\n") == 1)
     return (found[1], found[2]) if found else ("", "")
 
 
@@ -38,14 +40,11 @@ def test_the_first_recording_prints_what_readme_has(place: Path) -> None:
     command, printed = first_recording()
     done = outcome("bash", "-c", command, cwd=place)
     judge("it prints what README has", (done.returncode, done.stdout) == (0, printed), done)
-    told = run("bash", "-c", f"{UNPROVED} audit bin/first.ch11", cwd=place)
+    told = run("bash", "-c", f"{NAMES}; bpfrec audit bin/first.ch11", cwd=place)
     judge("and the audit approves", told.endswith("yes other 0\n") and "`yes other 0`" in README, told)
-    extracted = re.search(rf"`({UNPROVED} extract .*?) && host/bin/convert (.*?)`", README)
-    judge("README goes on to a capture", extracted is not None)
-    if extracted:
-        run("bash", "-c", extracted[1], cwd=place)
-        made = run(CONVERT, *extracted[2].split(), cwd=place)
-        judge("the capture has the frames of channel 1", made == "frames 11\n", made)
+    exported = re.search(r"`(bpfrec export bin/first.*?)`", README)
+    made = run("bash", "-c", f"{NAMES}; {exported[1] if exported else 'false'}", cwd=place)
+    judge("the capture has the frames of both channels", made == "frames 14 skipped 0\n", made)
 
 
 def test_tshark_shows_the_first_recording_as_readme_says(place: Path) -> None:
@@ -63,11 +62,12 @@ def test_the_commands_of_an_interface_run(place: Path, namespace: None) -> None:
     if missing({"bin/capture": "make build", "ip": "iproute2"}) or os.geteuid() != 0:
         pytest.skip("it needs root, iproute2 and bin/capture")
     found = re.search(r"```sh\nmake capture\nsudo (BPFREC=.*)\n(.*)\n(.*)\n```", README)
+    judge("README says how the program is named", NAMES in README)
     judge("README goes on to an interface", found is not None)
     live, *others = found.groups() if found else ("", "", "")
     for name, *words in (["rx0", "down"], ["rx0", "name", "eth0"], ["eth0", "up"]):
         set_link(name, *words)
-    running = Running(place, "bash", "-c", f"exec env {live}", cwd=place)
+    running = Running(place, "bash", "-c", f"{NAMES}; exec env {live}", cwd=place)
     running.wait_until_told("origin")
     wait_for("it records", (place / "bin/wire.ch11").exists)
     time.sleep(0.3)
@@ -76,8 +76,8 @@ def test_the_commands_of_an_interface_run(place: Path, namespace: None) -> None:
     running.interrupt()
     status, printed = running.ended()
     judge("Ctrl-C ends it, and the audit approves", status == 0 and printed.endswith("yes other 0\n"), running.told())
-    told = "".join(run("bash", "-c", command, cwd=place) for command in others)
-    judge("the capture has its frames", told == f"frames {COUNT} passed 0\nframes {COUNT}\n", told)
+    told = "".join(run("bash", "-c", f"{NAMES}; {command}", cwd=place) for command in others)
+    judge("the capture has its frames", told.endswith(f"\nframes {COUNT} skipped 0\n"), told)
 
 
 def test_readme_has_150_lines_at_most() -> None:

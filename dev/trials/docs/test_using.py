@@ -118,7 +118,7 @@ def run_all(wanted: dict[int, Command], adds: dict[str, str]) -> dict[int, str]:
         timeout=PATIENCE,
         stdout=subprocess.PIPE,
         stderr=subprocess.STDOUT,
-        env={**os.environ, **adds},
+        env={**os.environ, "PATH": f"{support.COMMAND.parent}:{os.environ['PATH']}", **adds},
     )
     parts = done.stdout.split(MARK + "\n")
     judge_quietly("each command is run", len(parts) == len(wanted) + 1, done.stdout[-2000:])

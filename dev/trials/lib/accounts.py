@@ -70,7 +70,7 @@ def judge_recorded(
     losses = [it for one in facts for it in one["losses"] if it["interface"] == interface]
     sums = [sum(it[name] for it in losses) for name in LOSSES]
     judge("facts have each loss", sums == [found.dropped, found.missed, found.skipped], (losses, told))
-    line = f"live: {interface} LOST {found.dropped} dropped {found.skipped} skipped"
+    line = f"bpfrec live: {interface} LOST {found.dropped} dropped {found.skipped} skipped"
     line += f" {found.missed} missed" * (found.missed > 0)
     judge("the last lines have those that lost some", (f"{line}\n" in told) == (found.lost() > 0), told)
     return found

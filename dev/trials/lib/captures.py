@@ -3,9 +3,10 @@
 import hashlib
 from pathlib import Path
 
-from bpfrec_host.formats import pcap
-from bpfrec_host.formats.pcapng import Blocks, begins_pcapng
-from bpfrec_host.streams import Input, Refused
+from bpfrec_host.streams import Refused
+from conversion import pcap
+from conversion.pcapng import Blocks, begins_pcapng
+from conversion.streams import Input
 from corners import Read
 from frames import records
 from support import CONVERT, run

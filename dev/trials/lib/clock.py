@@ -104,7 +104,7 @@ def preloaded(name: str = "set_clock") -> Path:
 
 
 def capture_with(work: Path, adds: dict) -> Path:
-    """A script that is bin/capture with these variables, for host/bin/live."""
+    """A script that is bin/capture with these variables, for bpfrec live."""
     path = work / "capture_with"
     given = " ".join(f"{name}='{value}'" for name, value in adds.items())
     path.write_text(f'#!/bin/sh\nexec env {given} {CAPTURE} "$@"\n')

@@ -16,11 +16,11 @@ from pathlib import Path
 from typing import Any, NamedTuple, Optional
 
 from recordings import extracted
-from support import BPFREC, ROOT, SECONDS, judge_quietly, outcome, present, run, wait_for
+from support import BPFREC, SECONDS, TOOLS, judge_quietly, outcome, present, run, wait_for
 from whole_file import SECOND, SETUP, Origin, Setup
 from whole_file_parts import ORIGIN, Part, recorded
 
-PUBLISH, RECEIVE = ROOT / "host/bin/publish", ROOT / "host/bin/receive"
+PUBLISH, RECEIVE = TOOLS / "publish", TOOLS / "receive"
 PUBLISHED = re.compile(r"published packets (\d+) datagrams (\d+) lost (\d+) late (\d+)\n\Z")
 RECEIVED = re.compile(
     r"received packets (\d+) datagrams (\d+) lost (\d+) doubled (\d+) damaged (\d+) skipped (\d+) foreign (\d+)\n"
@@ -165,7 +165,7 @@ def renumbered(parts: list[Part]) -> list[Part]:
 
 
 class Receiver:
-    """host/bin/receive, which writes what comes to a port into a file."""
+    """bpfrec receive, which writes what comes to a port into a file."""
 
     def __init__(self, work: Path, name: str, address: str, *options: object) -> None:
         self.out, self.errors = work / name, work / f"{name}.errors"
@@ -225,7 +225,7 @@ def drawn_flight(work: Path, seed: int, seconds: int = 25) -> Path:
 
 def whole_file_of(work: Path, path: Path) -> bytes:
     """The whole file that bpfrec makes of a recording, with the name that publish gives it."""
-    run(ROOT / "host/bin/chapter11", "--force", "--attribute", f"G\\COM:{path.name}", path, work / "whole.ch10")
+    run(TOOLS / "export", "--force", "--attribute", f"G\\COM:{path.name}", path, work / "whole.ch10")
     return (work / "whole.ch10").read_bytes()
 
 

@@ -1,4 +1,4 @@
-"""What may happen to a run of host/bin/live that is played, and when."""
+"""What may happen to a run of bpfrec live that is played, and when."""
 
 from __future__ import annotations
 

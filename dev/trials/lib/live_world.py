@@ -1,4 +1,4 @@
-"""A world for the machine of host/bin/live without a process: its capture, recorders and audits are played here.
+"""A world for the machine of bpfrec live without a process: its capture, recorders and audits are played here.
 
 What the machine asks for has consequences, which come when the trial lets them: so each order can be tried.
 """

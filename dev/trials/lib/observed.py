@@ -1,8 +1,8 @@
-"""host/bin/live with an observer of its run."""
+"""bpfrec live with an observer of its run."""
 
 from support import ROOT
 
-# host/bin/live with an observer that notes each call as a line of JSON.
+# bpfrec live with an observer that notes each call as a line of JSON.
 OBSERVED = f"""
 import json, sys
 sys.dont_write_bytecode = True

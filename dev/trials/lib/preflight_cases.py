@@ -1,4 +1,4 @@
-"""Wrong settings, filters, feeds and outputs, each with what host/bin/preflight must say of it, which was written by
+"""Wrong settings, filters, feeds and outputs, each with what bpfrec preflight must say of it, which was written by
 hand."""
 
 from typing import NamedTuple

@@ -1,4 +1,4 @@
-"""What trials of host/bin/info and host/bin/salvage share: these tools as modules, for many calls, and recordings."""
+"""What trials of bpfrec info and bpfrec salvage share: these tools as modules, for many calls, and recordings."""
 
 import contextlib
 import io

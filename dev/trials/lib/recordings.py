@@ -1,4 +1,4 @@
-"""What trials of live recordings share: settings, host/bin/live, its recordings and the facts beside them."""
+"""What trials of live recordings share: settings, bpfrec live, its recordings and the facts beside them."""
 
 import contextlib
 import json

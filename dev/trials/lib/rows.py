@@ -219,7 +219,7 @@ def flight_of(work: Path) -> Path:
     for name in ("arp", "udp_port"):
         (ROOT / "bin").mkdir(exist_ok=True)
         (ROOT / f"bin/{name}.txt").write_text(run(BPFREC, "asm", ROOT / f"examples/filters/{name}.bpf"))
-    run(BPFREC, "record", "examples/flight.toml", work / "flight.ch11", cwd=ROOT, stdin=subprocess.DEVNULL)
+    run(BPFREC, "record", "examples/feeds.toml", work / "flight.ch11", cwd=ROOT, stdin=subprocess.DEVNULL)
     return work / "flight.ch11"
 
 

@@ -1,4 +1,4 @@
-"""The frames that tshark sees in captures of host/bin/pcapng, beside those that extract gives of the recordings."""
+"""The frames that tshark sees in captures of bpfrec export, beside those that extract gives of the recordings."""
 
 import struct
 from collections.abc import Callable
@@ -8,7 +8,7 @@ from typing import NamedTuple
 from captures import fields_of
 from frames import Record, records
 from recorder import extracted
-from support import BPFREC, PCAPNG, judge_quietly, outcome, run
+from support import BPFREC, EXPORT, judge_quietly, outcome, run
 
 SECOND = 10**9
 
@@ -38,7 +38,7 @@ def seen_in(capture: Path) -> list[Seen]:
 def made(work: Path, *words: object, status: int = 0) -> Path:
     """The capture that the tool makes."""
     out = work / "made.pcapng"
-    done = outcome(PCAPNG, "--force", *words[:-1], out, words[-1])
+    done = outcome(EXPORT, "--force", *words, out)
     judge_quietly(f"pcapng {words}", done.returncode == status, done)
     return out
 

@@ -1,4 +1,4 @@
-"""What host/bin/live --status serves."""
+"""What bpfrec live --status serves."""
 
 import json
 import re

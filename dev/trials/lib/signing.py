@@ -1,4 +1,4 @@
-"""Keys, signers and signed recordings, for trials of host/bin/live --sign and of what host/bin/check_sums says of them."""
+"""Keys, signers and signed recordings, for trials of bpfrec live --sign and of what bpfrec check says of them."""
 
 import contextlib
 import hashlib
@@ -8,7 +8,7 @@ from pathlib import Path
 
 from namespace import send_numbered
 from recordings import begin, has_facts
-from support import CHECK_SUMS, Running, judge, outcome, run, wait_for
+from support import Running, judge, run, sums, wait_for
 
 SIGNER, OTHER = "fc1@range.example", "fc2@range.example"
 # What signing needs, for WANTED.
@@ -40,9 +40,9 @@ def hash_of(out: Path) -> str:
 
 
 def checked(signers: Path | None, *files: object, **more: object) -> subprocess.CompletedProcess:
-    """What check_sums says of recordings."""
+    """What check says of recordings."""
     words = [] if signers is None else ["--signers", signers]
-    return outcome(CHECK_SUMS, *words, *[f"--{name}={value}" for name, value in more.items()], *files)
+    return sums(*words, *[f"--{name}={value}" for name, value in more.items()], *files)
 
 
 def judge_refused(what: str, done: subprocess.CompletedProcess, line: str) -> None:

@@ -20,9 +20,12 @@ ROOT = Path(__file__).resolve().parents[3]
 # Another build of either is tried by the variables BPFREC and CAPTURE, by which the tools find it too.
 BPFREC = Path(os.environ.get("BPFREC") or ROOT / "bin/bpfrec")
 CAPTURE = Path(os.environ.get("CAPTURE") or ROOT / "bin/capture")
-LIVE, CONVERT, INFO, PCAPNG, SALVAGE, PREFLIGHT, CHECK_SUMS = (
-    ROOT / "host/bin" / name for name in ("live", "convert", "info", "pcapng", "salvage", "preflight", "check_sums")
+# The command as users call it; and each tool by a name of its own, for a trial that starts it alone.
+COMMAND, TOOLS = ROOT / "host/bin/bpfrec", ROOT / "dev/trials/lib/tools"
+LIVE, CONVERT, INFO, EXPORT, SALVAGE, PREFLIGHT = (
+    TOOLS / name for name in ("live", "convert", "info", "export", "salvage", "preflight")
 )
+CHECK, CHECK_CH10 = TOOLS / "check", TOOLS / "check_ch10"
 # What a trial may want that a build makes.
 BUILT = {"bin/bpfrec": BPFREC, "bin/capture": CAPTURE}
 # The modules and C files that trials share, and the scripts of hours.
@@ -72,6 +75,16 @@ def run(*words: object, seconds: float = SECONDS, **more: Any) -> str:
     done = outcome(*words, seconds=seconds, **more)
     judge_quietly(f"{words}: status {done.returncode}", done.returncode == 0, done.stderr)
     return done.stdout
+
+
+def sums(*words: object, **more: Any) -> subprocess.CompletedProcess:
+    """What `bpfrec check` says but for the audit, and for its answer, which is that of its status."""
+    done = outcome(CHECK, "--no-audit", *words, **more)
+    lines = done.stdout.splitlines(keepends=True)
+    if done.stdout and done.returncode in (0, 1):
+        judge_quietly("the answer", lines[-1:] == [("yes\n", "no\n")[done.returncode]], done)
+        done.stdout = "".join(lines[:-1])
+    return done
 
 
 def outcome(*words: object, seconds: float = SECONDS, **more: Any) -> subprocess.CompletedProcess:

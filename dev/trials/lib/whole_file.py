@@ -10,7 +10,7 @@ import datetime
 import struct
 from bisect import bisect_right
 from collections import Counter, deque
-from typing import Iterator, NamedTuple, Optional
+from typing import Collection, Iterator, NamedTuple, Optional
 
 from frames import COMPUTER, FRAMES, body_of, packet_of
 
@@ -243,7 +243,7 @@ def cleaned(name: str) -> str:
     return plain.strip(" ")[:32] or "NONE"
 
 
-def setup_text(setup: Setup, recording: Recording, first: Mark) -> str:
+def setup_text(setup: Setup, channels: Collection[int], time_channel: int, first: Mark, is_indexed: bool) -> str:
     said = civil(first.moment)
     hour, minute, second, _ = said.clock()
     host, source = cleaned(setup.host), "E" if setup.is_external else "I"
@@ -257,22 +257,17 @@ def setup_text(setup: Setup, recording: Recording, first: Mark) -> str:
     ]
     lines += ["G\\DST-1:STO", f"R-1\\ID:{host}", "R-1\\RID:bpfrec", f"R-1\\R1:{cleaned(setup.program)}", "R-1\\TC1:SSR"]
     lines += ["R-1\\RI3:Y", f"R-1\\RI4:{said.date_text()}-{hour:02}-{minute:02}-{second:02}", "R-1\\NSB:0"]
+    lines += ["R-1\\IDX\\E:T", "R-1\\IDX\\IT:C", "R-1\\IDX\\ICV:1"] if is_indexed else ["R-1\\IDX\\E:F"]
+    lines += ["R-1\\EV\\E:F", f"R-1\\N:{len(channels) + 1}"]
     lines += [
-        "R-1\\IDX\\E:T",
-        "R-1\\IDX\\IT:C",
-        "R-1\\IDX\\ICV:1",
-        "R-1\\EV\\E:F",
-        f"R-1\\N:{len(recording.channels) + 1}",
-    ]
-    lines += [
-        f"R-1\\TK1-1:{recording.time_channel}",
+        f"R-1\\TK1-1:{time_channel}",
         "R-1\\TK4-1:1",
         "R-1\\CHE-1:T",
         "R-1\\DSI-1:TIME",
         "R-1\\CDT-1:TIMEIN",
     ]
     lines += ["R-1\\TTF-1:1", "R-1\\TFMT-1:I", f"R-1\\TSRC-1:{source}"]
-    for number, channel in enumerate(sorted(recording.channels), 2):
+    for number, channel in enumerate(sorted(channels), 2):
         name, net = setup.channels.get(channel, ("channel", 0))
         label = cleaned(f"{cleaned(name)[:24]} {channel}")
         lines += [f"R-1\\TK1-{number}:{channel}", f"R-1\\TK4-{number}:{number}", f"R-1\\CHE-{number}:T"]
@@ -365,7 +360,9 @@ def whole_file(data: bytes, setup: Setup, most_named: int = MOST_NAMED) -> File:
         raise Refused(4, "Origin", 0)
     if civil(first.moment).date is None:
         raise Refused(5, "Year", 0)
-    text = struct.pack("<I", 0x0C) + setup_text(setup, recording, first).encode("ascii")
+    text = struct.pack("<I", 0x0C) + setup_text(setup, recording.channels, recording.time_channel, first, True).encode(
+        "ascii"
+    )
     file.put("setup", 0, SETUP, first.tick, text)
     put_time(file, first, setup, recording, 0)
     ahead = next(marks, None)

@@ -1,4 +1,4 @@
-"""Tries alarms of host/bin/live that go out: the program of --on-alarm, which spoils nothing whatever becomes of it, and
+"""Tries alarms of bpfrec live that go out: the program of --on-alarm, which spoils nothing whatever becomes of it, and
 lines with priorities for systemd's journal.
 
 The alarm is that of a clock that isn't synchronised, by a kernel that says so.
@@ -138,12 +138,13 @@ def test_a_program_that_is_missing_is_refused_before_anything_is_begun(work: Pat
     words = ["--on-alarm", f"{work}/missing now", settings_of(work), out, "rx0=1", "rx1=2"]
     done = outcome(LIVE, *words)
     why = f"--on-alarm: {work}/missing is missing, or can't be run\n"
-    judge("by its name", (done.returncode, done.stderr) == (3, f"live: {why}"), done)
+    judge("by its name", (done.returncode, done.stderr) == (3, f"bpfrec live: {why}"), done)
     judge("nothing was begun", not out.exists())
     done = outcome(PREFLIGHT, "--live", *words)
-    judge("preflight says so", (done.returncode, done.stdout) == (1, f"live: {why}1 fault\n"), done)
+    is_said = done.stdout.startswith(f"live: {why}") and done.stdout.endswith("\n1 fault\n")
+    judge("preflight says so", done.returncode == 1 and is_said, done)
     done = outcome(LIVE, "--on-alarm", "'x", out, "rx0")
-    line = "live: --on-alarm needs a command: no closing quotation\n"
+    line = "bpfrec live: --on-alarm needs a command: no closing quotation\n"
     judge("so are quotes that stay open", (done.returncode, done.stderr) == (2, line), done)
 
 
@@ -166,9 +167,9 @@ def test_lines_for_the_journal_have_their_priorities(work: Path, quiet: list[str
     live.type_in(f"set 1 {work}/all")
     live.type_in(f"set 1 {work}/missing")
     kernel.set(False)
-    wait_for("the alarm", lambda: "<3>live: alarm: the clock is not synchronised\n" in live.told(), 5)
+    wait_for("the alarm", lambda: "<3>bpfrec live: alarm: the clock is not synchronised\n" in live.told(), 5)
     kernel.set(True)
-    wait_for("its end", lambda: "<6>live: alarm ended: the clock is not synchronised\n" in live.told(), 5)
+    wait_for("its end", lambda: "<6>bpfrec live: alarm ended: the clock is not synchronised\n" in live.told(), 5)
     send_together(0, 50)
     time.sleep(1.2)
     live.interrupt()
@@ -179,8 +180,8 @@ def test_lines_for_the_journal_have_their_priorities(work: Path, quiet: list[str
         r"<6>capture: origin \d+\.\d{9}",
         r"<6>installed 1 1 \d+",
         r"<4>refused 1 File",
-        r"<6>live: clock: synchronised, off by at most 0\.000500 s",
-        r"<3>live: clock: not synchronised: --require-clock: the clock is not synchronised",
+        r"<6>bpfrec live: clock: synchronised, off by at most 0\.000500 s",
+        r"<3>bpfrec live: clock: not synchronised: --require-clock: the clock is not synchronised",
         r"<6>capture: rx0 frames 50 .*",
     ):
         judge_quietly(f"{line}: {lines}", any(re.fullmatch(line, it) for it in lines))
@@ -190,8 +191,8 @@ def test_lines_for_the_journal_have_their_priorities(work: Path, quiet: list[str
 
 def test_refusals_are_errors_to_the_journal(work: Path) -> None:
     for words, line in {
-        ("--every", "x"): "<3>live: --every needs a number from 1 to 999999999, in seconds, or as 10m\n",
-        ("--require-clock", "0.000001"): "<3>live: --require-clock: the clock may be off by 0.000500 s, ",
+        ("--every", "x"): "<3>bpfrec live: --every needs a number from 1 to 999999999, in seconds, or as 10m\n",
+        ("--require-clock", "0.000001"): "<3>bpfrec live: --require-clock: the clock may be off by 0.000500 s, ",
     }.items():
         adds = {**Synchronisation(work).adds, **journal_of(work)}
         running = Running(work, LIVE, *words, settings_of(work), work / "r.ch11", "rx0=1", "rx1=2", adds=adds)
@@ -201,7 +202,9 @@ def test_refusals_are_errors_to_the_journal(work: Path) -> None:
 
 def test_another_standard_error_has_no_priorities(work: Path) -> None:
     live = begin(work, work / "n.ch11", adds={"JOURNAL_STREAM": "1:1"})
-    live.wait_until_told("live: clock: ")
+    live.wait_until_told("bpfrec live: clock: ")
     live.interrupt()
     judge("live ends well", live.ended()[0] == 0)
-    judge("its lines are as ever", "<" not in live.told() and "\nlive: clock: " in f"\n{live.told()}", live.told())
+    judge(
+        "its lines are as ever", "<" not in live.told() and "\nbpfrec live: clock: " in f"\n{live.told()}", live.told()
+    )

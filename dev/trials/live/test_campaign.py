@@ -14,23 +14,10 @@ from namespace import make_pair, socket_into
 from recorder import extracted
 from recordings import begin, facts_of, folder_of, is_approved, settings_of_one
 from seen_frames import seen_in
-from support import (
-    BPFREC,
-    CHECK_SUMS,
-    MILLISECOND,
-    PCAPNG,
-    ROOT,
-    SECOND,
-    Running,
-    judge,
-    judge_quietly,
-    nanoseconds,
-    outcome,
-    run,
-)
+from support import BPFREC, EXPORT, MILLISECOND, SECOND, Running, judge, judge_quietly, nanoseconds, outcome, run, sums
 
 WANTED = {"bin/bpfrec": "make build", "bin/capture": "make build", "ip": "iproute2", "tshark": "tshark"}
-CHAPTER11 = ROOT / "host/bin/chapter11"
+CHAPTER11 = (EXPORT, "--as=chapter11")
 TAPS, EVENTS = 4, 200
 TICK = 100
 
@@ -108,7 +95,7 @@ def test_a_campaign_of_four_recorders(work: Path, campaign: Campaign) -> None:
 
 def judge_capture(work: Path, campaign: Campaign) -> None:
     """Judges the capture: an interface for each tap, in the order of times."""
-    run(PCAPNG, work / "all.pcapng", *campaign.recordings)
+    run(EXPORT, *campaign.recordings, work / "all.pcapng")
     told = run("capinfos", "-k", "-I", work / "all.pcapng")
     names = [it.split(" = ")[1] for it in told.splitlines() if it.strip().startswith("Name = ")]
     judge("each tap is an interface", names == [f"rx{tap}" for tap in range(TAPS)], names)
@@ -123,10 +110,10 @@ def judge_capture(work: Path, campaign: Campaign) -> None:
 def judge_whole_file(work: Path, campaign: Campaign) -> None:
     """Judges the Chapter 11 file: a channel for each tap, those that meet numbered anew."""
     out = work / "all.ch10"
-    done = outcome(CHAPTER11, *campaign.recordings, out)
+    done = outcome(*CHAPTER11, *campaign.recordings, out)
     wanted = [f"channel 1 of {path} is {tap}" for tap, path in enumerate(campaign.recordings[1:], 2)]
     judge("the rule is printed", (done.returncode, done.stdout.splitlines()[:-1]) == (0, wanted), done)
-    for done in (outcome(CHECK_SUMS, out), outcome(BPFREC, "audit", out)):
+    for done in (sums(out), outcome(BPFREC, "audit", out)):
         judge("it is a whole file", done.returncode == 0, done)
     origin = nanoseconds(*facts_of(campaign.recordings[0])["origins"][0]["origin"].split("."))
     taps = [records(extracted(out, channel, work / "one.feed")) for channel in range(1, TAPS + 1)]

@@ -1,4 +1,4 @@
-"""Tries host/bin/live with a wall clock that is set while it records: OUT.json has the origins that are told."""
+"""Tries bpfrec live with a wall clock that is set while it records: OUT.json has the origins that are told."""
 
 import time
 from pathlib import Path
@@ -49,9 +49,9 @@ def test_the_facts_have_the_origins_that_are_told(work: Path) -> None:
     judge("live with a clock that is set twice: status 0, and the audit says yes", status == 0 and YES in printed)
     for channel in (1, 2):
         found = records(extracted(work, out, channel))
-        judge_frames(f"live: channel {channel}", found, sender.sent, origins_told(told), clock)
+        judge_frames(f"bpfrec live: channel {channel}", found, sender.sent, origins_told(told), clock)
     judge_steps("live", told, wanted)
-    judge("live: counters go on, and with the origins that are told each frame has its time", True)
+    judge("bpfrec live: counters go on, and with the origins that are told each frame has its time", True)
     facts = facts_of(out)["origins"]
     judge("the facts have the origins that are told, in order", origins_of(facts) == origins_told(told))
     judge("each has its scale", {it["scale"] for it in facts} == {"UTC"}, facts)

@@ -17,10 +17,10 @@ import pytest
 from frames import numbers_in, records
 from namespace import send_numbered
 from recordings import YES, begin, extracted, facts_of, write_settings
-from support import LIVE, PREFLIGHT, ROOT, Running, judge, judge_quietly, outcome, present
+from support import LIVE, PREFLIGHT, TOOLS, Running, judge, judge_quietly, outcome, present
 
 WANTED = {"bin/bpfrec": "make build", "bin/capture": "make build", "ip": "iproute2", "tcpdump": "tcpdump"}
-CONTROL = ROOT / "host/bin/control"
+CONTROL = TOOLS / "tell"
 
 
 @pytest.fixture(name="run")

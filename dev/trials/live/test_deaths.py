@@ -1,4 +1,4 @@
-"""Tries host/bin/live of which live and its guard are killed at once: what they started ends, and what is left is told."""
+"""Tries bpfrec live of which live and its guard are killed at once: what they started ends, and what is left is told."""
 
 import contextlib
 import os
@@ -23,7 +23,7 @@ from recordings import (
     recordings,
     settings_of,
 )
-from support import BPFREC, LIVE, Running, judge, judge_quietly, wait_for
+from support import BPFREC, CAPTURE, LIVE, Running, judge, judge_quietly, wait_for
 
 WANTED = {"bin/bpfrec": "make build", "bin/capture": "make build", "ip": "iproute2"}
 pytestmark = [pytest.mark.timed, pytest.mark.usefixtures("namespace")]
@@ -59,7 +59,7 @@ def test_one_that_opens_its_pipes_beside_another_ends(work: Path) -> None:
     """The next recorder waits for the capture, which stands still."""
     out = work / "next.ch11"
     running = begin(work, out, "--quiet", "--every", 1)
-    capture = process_of(out, Path(os.environ.get("CAPTURE") or LIVE.parents[2] / "bin/capture"))
+    capture = process_of(out, CAPTURE)
     wait_for("it records", lambda: is_recording(out, work / "next_00001.ch11"))
     os.kill(capture, signal.SIGSTOP)
     wait_for("the next one waits", lambda: len([it for it in processes_of(out).values() if " record " in it]) == 2, 5)
@@ -111,7 +111,7 @@ def test_what_they_left_is_told_at_the_next_start(work: Path) -> None:
         (work / "private" / name).mkdir()
     (work / "private/bpfrec.0123456789abcdef").symlink_to(left[0])
     second = begin(work, work / "second.ch11", "--quiet")
-    line = f"live: left of runs that were killed, and to be removed: {left[0]}\n"
+    line = f"bpfrec live: left of runs that were killed, and to be removed: {left[0]}\n"
     judge("it is told", second.told().count(line) == 1 and second.told().count("bpfrec.") == 1, second.told())
     here = folder_of(work, "third")
     third = begin(here, here / "third.ch11", "--quiet", adds={"TMPDIR": str(work / "private")})

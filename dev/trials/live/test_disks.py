@@ -1,4 +1,4 @@
-"""Tries host/bin/live on disks whose power is cut, and on disks that are full."""
+"""Tries bpfrec live on disks whose power is cut, and on disks that are full."""
 
 import contextlib
 import os
@@ -125,7 +125,7 @@ def test_a_full_disk_ends_a_recording_within_five_seconds(work: Path) -> None:
             running.interrupt()
         status, told = running.ended()[0], running.told()
     judge("a full disk ends a recording with a silent channel within 5 s", has_ended and status == 1, told)
-    line = f"live: {out} can't be written any more: the recording ends\n"
+    line = f"bpfrec live: {out} can't be written any more: the recording ends\n"
     judge("and it is told", told.count(line) == 1 and nothing_left(work), told)
 
 
@@ -143,7 +143,7 @@ def judge_going_on(work: Path, disk: Path, name: str, words: list) -> None:
     line = "can't be written any more: the next recording begins once there is room"
     sent, _ = fill_disk(disk, running, line)
     wait_for(lambda: f"{name}: a full disk is told: {running.told()}", lambda: line in running.told(), 5)
-    failed = Path(present(re.search(rf"live: (.*) {line}", running.told()))[1])
+    failed = Path(present(re.search(rf"bpfrec live: (.*) {line}", running.told()))[1])
     before = recordings(disk, name)
     for path in before:
         if path != failed:

@@ -1,4 +1,4 @@
-"""Tries the order of what host/bin/live, its recorder and its tools do to each file that they make, call by call, by a
+"""Tries the order of what bpfrec live, its recorder and its tools do to each file that they make, call by call, by a
 library that is preloaded (dev/trials/lib/seen_calls.c)."""
 
 import re

@@ -1,4 +1,4 @@
-"""Tries the facts that host/bin/live writes beside a recording: from its beginning on, of odd names, and of parts."""
+"""Tries the facts that bpfrec live writes beside a recording: from its beginning on, of odd names, and of parts."""
 
 import contextlib
 import json

@@ -1,4 +1,4 @@
-"""Tries host/bin/follow beside host/bin/live: what it shows is what the recordings have, in time, and it changes nothing
+"""Tries bpfrec follow beside bpfrec live: what it shows is what the recordings have, in time, and it changes nothing
 of them."""
 
 from __future__ import annotations
@@ -21,12 +21,12 @@ from frames import HEAD, feed_of, numbered, records, with_check_sequence
 from ground import drawn_flight
 from namespace import socket_into
 from recordings import Traffic, begin, extracted, facts_of, has_open, is_approved, parts_of, recordings, write_settings
-from support import BPFREC, PCAPNG, ROOT, judge, judge_quietly, outcome, run, wait_for
+from support import BPFREC, EXPORT, TOOLS, judge, judge_quietly, outcome, run, wait_for
 from whole_file_parts import ORIGIN
 
 WANTED = {"bin/bpfrec": "make build", "bin/capture": "make build", "ip": "iproute2", "tshark": "tshark"}
 pytestmark = [pytest.mark.usefixtures("namespace")]
-FOLLOW = ROOT / "host/bin/follow"
+FOLLOW = TOOLS / "follow"
 INTERFACE, PACKET = 1, 6
 SECONDS = 60
 
@@ -46,7 +46,7 @@ class Shown(NamedTuple):
 
 
 class Follower:
-    """host/bin/follow, and what it has shown so far."""
+    """bpfrec follow, and what it has shown so far."""
 
     def __init__(self, work: Path, *words: object) -> None:
         arguments = [str(FOLLOW), *map(str, words)]
@@ -102,8 +102,8 @@ def options_of(data: bytes) -> dict[int, str]:
 
 
 def captured(work: Path, *paths: Path) -> list[tuple[int, bytes]]:
-    """The moments and bytes of the frames that host/bin/pcapng gives of recordings."""
-    run(PCAPNG, "--force", work / "all.pcapng", *paths)
+    """The moments and bytes of the frames that bpfrec export gives of recordings."""
+    run(EXPORT, "--force", *paths, work / "all.pcapng")
     data, at, found = (work / "all.pcapng").read_bytes(), 0, []
     while at < len(data):
         kind, length = struct.unpack_from("<II", data, at)
@@ -230,7 +230,11 @@ def test_ctrl_c_ends_it_with_a_line(work: Path) -> None:
     time.sleep(1)
     follower.process.send_signal(signal.SIGINT)
     status = follower.ended(10)
-    judge("as other tools", (status, (work / "follow.errors").read_text()) == (130, "follow: interrupted\n"), status)
+    judge(
+        "as other tools",
+        (status, (work / "follow.errors").read_text()) == (130, "bpfrec follow: interrupted\n"),
+        status,
+    )
     running.interrupt()
     judge("the recording goes on", running.ended()[0] == 0, running.told())
 
@@ -298,7 +302,7 @@ def test_recordings_that_cannot_be_followed_are_refused(work: Path) -> None:
     ]
     for words, line in refused:
         done = outcome(FOLLOW, *words, cwd=work)
-        judge(line, (done.returncode, done.stderr) == (1, f"follow: {line}\n"), done)
+        judge(line, (done.returncode, done.stderr) == (1, f"bpfrec follow: {line}\n"), done)
 
 
 def test_a_run_of_before_is_not_taken_for_the_next_recording(work: Path) -> None:

@@ -1,4 +1,4 @@
-"""Ends host/bin/live at drawn moments around a handover, while frames come: one signal ends it, and all frames are there.
+"""Ends bpfrec live at drawn moments around a handover, while frames come: one signal ends it, and all frames are there.
 
 HANDOVER_MOMENTS in the environment has more moments drawn of each number of interfaces.
 """

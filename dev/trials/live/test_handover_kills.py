@@ -1,4 +1,4 @@
-"""Kills the old recorder, the new one or both of host/bin/live at drawn moments around a handover, while frames come: each
+"""Kills the old recorder, the new one or both of bpfrec live at drawn moments around a handover, while frames come: each
 interface goes on, and each frame is in a recording or in a count.
 
 HANDOVER_KILLS in the environment has more of them drawn of each number of interfaces.

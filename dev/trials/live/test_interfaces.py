@@ -1,4 +1,4 @@
-"""Tries host/bin/live on interfaces that come back, with permissions that it gives up, and by an adapter's clock."""
+"""Tries bpfrec live on interfaces that come back, with permissions that it gives up, and by an adapter's clock."""
 
 import contextlib
 import os
@@ -189,7 +189,7 @@ def member_tools(work: Path) -> Path:
 def test_a_member_of_the_group_records_without_root(work: Path) -> None:
     place = member_tools(work)
     out = place / "member.ch11"
-    words = [place / "host/bin/live", "--quiet", place / "live.toml", out, "rx0=1", "rx1=2"]
+    words = [place / "host/bin/bpfrec", "live", "--quiet", place / "live.toml", out, "rx0=1", "rx1=2"]
     running = Running(place, *words, adds={RUN: str(out)}, user=NOBODY, group=MEMBERS, extra_groups=[], cwd=place)
     running.wait_until_told("origin")
     wait_for(

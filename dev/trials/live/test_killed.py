@@ -1,4 +1,4 @@
-"""Tries host/bin/live whose recorder is killed, as by the kernel where memory is short: the next recording begins."""
+"""Tries bpfrec live whose recorder is killed, as by the kernel where memory is short: the next recording begins."""
 
 import os
 import random
@@ -56,7 +56,7 @@ def test_the_next_recording_begins_with_the_frames_that_came_meanwhile(work: Pat
     status, told = running.ended()[0], running.told()
     judge("the status is the killed one's", status == 128 + signal.SIGKILL and nothing_left(work), (status, told))
     judge("it is told once", told.count("record was ended by signal 9: ") == 1, told)
-    judge("and so is the next", told.count("live: the next recording begins\n") == 1, told)
+    judge("and so is the next", told.count("bpfrec live: the next recording begins\n") == 1, told)
     first, second = recordings(work, "kill")
     facts = [facts_of(it) for it in (first, second)]
     judge(
@@ -78,7 +78,7 @@ def test_ten_in_a_row_within_a_minute_end_the_run(work: Path) -> None:
         judge_quietly(f"number {number}: it goes on: {running.told()}", running.process.poll() is None)
         kill_recorder(out, work / f"kill_{number:05}.ch11")
     status, told = running.ended()[0], running.told()
-    line = "live: 10 recorders in a row were killed within a minute: the recording ends\n"
+    line = "bpfrec live: 10 recorders in a row were killed within a minute: the recording ends\n"
     judge("it ends with a line", status == 128 + signal.SIGKILL and told.count(line) == 1, told)
     judge("and nothing is left", nothing_left(work) and not processes_of(out))
 
@@ -161,7 +161,9 @@ def test_interfaces_wait_for_a_live_that_is_slow_and_that_is_said(work: Path) ->
     status, told = running.ended()[0], running.told()
     judge("it ends with the killed one's status", status == 137, told)
     judge(
-        "a line says it", "live: rx0: no recorder reads its frames, which wait for the next recording\n" in told, told
+        "a line says it",
+        "bpfrec live: rx0: no recorder reads its frames, which wait for the next recording\n" in told,
+        told,
     )
     for channel in (1, 2):
         found = numbers_in(parts_of(work, "kill", channel))

@@ -1,4 +1,4 @@
-"""Kills and stops each process of host/bin/live at drawn moments: nothing hangs or is left, and what was lost is said."""
+"""Kills and stops each process of bpfrec live at drawn moments: nothing hangs or is left, and what was lost is said."""
 
 import concurrent.futures
 import contextlib
@@ -149,11 +149,11 @@ def judge_rest(blow: Blow, here: Path, out: Path, status: int, told: str, has_st
     is_killed = has_struck and blow.number == signal.SIGKILL
     if is_killed and blow.role in ("capture", "recorder", "audit"):
         judge_quietly(f"{blow}: status {status}: {told}", status != 0)
-        judge_quietly(f"{blow}: it isn't said: {told}", re.search(r"live: \S+.* was ended by signal 9\b", told))
+        judge_quietly(f"{blow}: it isn't said: {told}", re.search(r"bpfrec live: \S+.* was ended by signal 9\b", told))
     if not is_killed or blow.role == "guard":
         judge_quietly(f"{blow}: status {status}, {answers}: {told}", status in (0, 3, -15) and are_whole)
     if is_killed and blow.role == "guard" and status == 0:
-        judge_quietly(f"{blow}: it isn't said: {told}", "live: its guard was ended by signal 9" in told)
+        judge_quietly(f"{blow}: it isn't said: {told}", "bpfrec live: its guard was ended by signal 9" in told)
 
 
 def test_no_process_that_is_killed_or_stopped_hangs_the_run_or_hides_a_loss(work: Path) -> None:
@@ -188,7 +188,9 @@ def test_a_second_signal_ends_what_stands_still(work: Path, role: str) -> None:
     os.kill(first, signal.SIGTERM)
     status, told = running.ended()[0], running.told()
     judge("a second one ends all", time.monotonic() - begun < PATIENCE and not processes_of(out), told)
-    judge("it says what was ended", status != 0 and re.search(r"live: \S+.* was ended by signal 9\b", told), told)
+    judge(
+        "it says what was ended", status != 0 and re.search(r"bpfrec live: \S+.* was ended by signal 9\b", told), told
+    )
     judge("nothing is left", nothing_left(here))
     listed = outcome(BPFREC, "list", out)
     # Where the recorder had written nothing, OUT is removed.

@@ -1,4 +1,4 @@
-"""Tries what host/bin/live tells of frames that the kernel loses, and how much memory its buffers take."""
+"""Tries what bpfrec live tells of frames that the kernel loses, and how much memory its buffers take."""
 
 import os
 import re
@@ -77,7 +77,7 @@ def test_frames_that_the_kernel_drops_are_told(work: Path, words: list, status: 
         (ended, printed), told = running.ended(), running.told()
     found = judge_recorded(work, (printed, told), [out], 8_008)
     judge("some were dropped, and others too long", found.dropped > 0 and found.skipped == 7, found)
-    judge("losses are the last line of standard error", re.search(r"live: rx0 LOST .* skipped\n\Z", told), told)
+    judge("losses are the last line of standard error", re.search(r"bpfrec live: rx0 LOST .* skipped\n\Z", told), told)
     judge_recorded(work, (printed, told), [out], 100, "rx1", 2)
     judge(f"status {ended}", ended == status)
     judge_times_of_losses(work, out)

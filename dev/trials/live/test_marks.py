@@ -28,11 +28,11 @@ from recordings import (
     write_settings,
 )
 from schemas import faults, schema_of
-from support import LIVE, PCAPNG, ROOT, Running, judge, judge_quietly, outcome, present, run, wait_for
+from support import EXPORT, LIVE, TOOLS, Running, judge, judge_quietly, outcome, present, run, wait_for
 
 WANTED = {"bin/bpfrec": "make build", "bin/capture": "make build", "ip": "iproute2", "tcpdump": "tcpdump"}
 pytestmark = [pytest.mark.usefixtures("namespace")]
-FOLLOW = ROOT / "host/bin/follow"
+FOLLOW = TOOLS / "follow"
 # Half a second, in ticks.
 NEAR = 5 * 10**6
 ANSWER = re.compile(r"^marked (\d+) (\S+Z)(?: in (.*))?$", re.MULTILINE)
@@ -86,11 +86,11 @@ def test_texts_that_are_none_get_a_named_answer(work: Path) -> None:
         (b"mark \xff\xfe", "its text is not UTF-8"),
     ]:
         os.write(lines, line + b"\n")
-        running.wait_until_told(f"live: mark: {fault}")
+        running.wait_until_told(f"bpfrec live: mark: {fault}")
     running.type_in("mark " + "\u00e9" * 255)
     running.wait_until_told("marked ")
     running.type_in("marks it")
-    running.wait_until_told("refused 0 Line")
+    running.wait_until_told("bpfrec live: marks it: no line marks, and help has all: did you mean mark?")
     running.type_in("stop")
     judge("it ends well", running.ended()[0] == 0, running.told())
     judge("one was none of them", [it["text"] for it in marks_of(out)] == ["\u00e9" * 255])
@@ -102,7 +102,7 @@ def test_a_recording_has_so_many_marks_at_most(work: Path) -> None:
     running.type_in("mark 0")
     running.wait_until_told("marked ")
     running.type_in("\n".join(f"mark {number}" for number in range(1, 1_026)))
-    fault = f"live: mark 1025: {out} has 1,024 marks, and can't have more"
+    fault = f"bpfrec live: mark 1025: {out} has 1,024 marks, and can't have more"
     wait_for("the last is refused", lambda: fault in running.told(), 10)
     running.type_in("stop")
     judge("it ends well", running.ended()[0] == 0, running.told()[-300:])
@@ -158,7 +158,7 @@ def test_lines_at_rotations_are_done_once(work: Path) -> None:
     ascending = all(it == list(range(1, len(it) + 1)) for it in versions.values())
     judge("and installed once, as the next version of its recording", ascending, versions)
     judge("marks are where their frames are", are_beside_frames(work), found[:3])
-    run(PCAPNG, work / "all.pcapng", *recordings(work, "turn"))
+    run(EXPORT, *recordings(work, "turn"), work / "all.pcapng")
     lines = [line for it in described((work / "all.pcapng").read_bytes()) for line in it.comment.splitlines()]
     shown = [line.split()[-1] for line in lines if line.startswith("mark ")]
     judge(
@@ -241,7 +241,7 @@ def test_a_recording_without_facts_takes_no_mark(work: Path) -> None:
     with open(work / "a.pipe", "r+b", buffering=0):
         wait_for("it records", lambda: (work / "o.ch11").exists(), 10)
         running.type_in("mark here")
-        running.wait_until_told(f"live: mark here: {work}/o.ch11 has no facts, in which it would stand")
+        running.wait_until_told(f"bpfrec live: mark here: {work}/o.ch11 has no facts, in which it would stand")
     running.type_in("stop")
     judge("it ends well", running.ended()[0] == 0, running.told())
 
@@ -285,7 +285,9 @@ def test_with_a_prefilter_a_line_may_mark_and_none_changes_a_filter(work: Path) 
     out = work / "kernel.ch11"
     running = begin(work, out, "--quiet", "--prefilter")
     running.type_in("set 1 arp")
-    running.wait_until_told("live: set 1 arp: with --prefilter no line changes a filter, since the kernel runs it")
+    running.wait_until_told(
+        "bpfrec live: set 1 arp: with --prefilter no line changes a filter, since the kernel runs it"
+    )
     running.type_in("mark here")
     running.wait_until_told("marked ")
     running.type_in("stop")

@@ -1,4 +1,4 @@
-"""Tries what host/bin/live tells an observer of a run, and that its lines stay the same then."""
+"""Tries what bpfrec live tells an observer of a run, and that its lines stay the same then."""
 
 import json
 import sys

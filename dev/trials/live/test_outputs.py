@@ -1,4 +1,4 @@
-"""Tries host/bin/live with a standard error that stands still, with an OUT that is there, and with SIGKILL."""
+"""Tries bpfrec live with a standard error that stands still, with an OUT that is there, and with SIGKILL."""
 
 import concurrent.futures
 import contextlib
@@ -129,7 +129,10 @@ def test_an_out_that_exists_is_refused(work: Path, name: str) -> None:
     path, out, facts = work / name, work / "there.ch11", work / "there.ch11.json"
     path.write_bytes(b"kept")
     running = Running(work, LIVE, "--quiet", settings_of(work), out, "rx0=1", "rx1=2")
-    status, line = running.ended()[0], r"live: \S+/there\.ch11(\.json)? is there: give it another name, or --force\n"
+    status, line = (
+        running.ended()[0],
+        r"bpfrec live: \S+/there\.ch11(\.json)? is there: give it another name, or --force\n",
+    )
     judge(
         f"refused: {name} that is there",
         status == 3 and re.fullmatch(line, running.told()) and nothing_left(work),
@@ -212,7 +215,7 @@ def judge_kill(work: Path, turn: int, moment: float) -> None:
 
 
 def test_no_drawn_sigkill_leaves_a_process_or_an_unread_recording(work: Path) -> None:
-    """SIGKILL of host/bin/live at drawn moments: some of its beginning, and some while it records."""
+    """SIGKILL of bpfrec live at drawn moments: some of its beginning, and some while it records."""
     drawn = random.Random(61)
     moments = [drawn.uniform(0.05, 0.4) if turn % 6 < 2 else drawn.uniform(0.4, 2.4) for turn in range(12)]
     traffic = Traffic()

@@ -1,4 +1,4 @@
-"""Tries recordings of host/bin/live that are moved or removed, follow one another under a set clock, or change
+"""Tries recordings of bpfrec live that are moved or removed, follow one another under a set clock, or change
 filters."""
 
 import re
@@ -64,7 +64,7 @@ def test_names_of_recordings_stay_in_order_under_a_clock_that_is_set(work: Path)
 def test_every_and_sync_have_their_ranges(work: Path) -> None:
     """The ranges of --every and --sync."""
     settings = settings_of(work)
-    every, sync = r"live: --every needs a number from 1 to 999999999, .*\n", r"live: --sync needs .*\n"
+    every, sync = r"bpfrec live: --every needs a number from 1 to 999999999, .*\n", r"bpfrec live: --sync needs .*\n"
     cases = [("--every", value, every) for value in ("1234567890", "0", "1.5", "-1")]
     cases += [("--sync", value, sync) for value in ("1234567890", "-1", "x")]
     for word, value, line in cases:
@@ -127,9 +127,9 @@ def test_a_recording_that_is_moved_away_is_told(work: Path) -> None:
     time.sleep(0.1)
     running.interrupt()
     (status, printed), told = running.ended(), running.told()
-    line = f"live: {first} was moved to {other / first.name}: it is recorded on there\n"
+    line = f"bpfrec live: {first} was moved to {other / first.name}: it is recorded on there\n"
     judge("a recording that was moved is told", line in told, told)
-    line = f"live: {second} was removed: it is recorded on, and gone at its end\n"
+    line = f"bpfrec live: {second} was removed: it is recorded on, and gone at its end\n"
     judge("and one that was removed", line in told, told)
     many = len(recordings(work, "moved")) + 2
     judge("both are audited as the others are", status == 0 and printed.count(YES) == many)
@@ -159,7 +159,7 @@ def test_a_single_recording_that_is_moved_away_is_told(work: Path, name: str) ->
         status == 0
         and YES in printed
         and "offered 100 kept 100" in printed
-        and f"live: {out} was {name}" in running.told(),
+        and f"bpfrec live: {out} was {name}" in running.told(),
         running.told(),
     )
     if name == "moved to":

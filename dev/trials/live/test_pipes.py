@@ -1,4 +1,4 @@
-"""Tries host/bin/live with an OUT that is a named pipe: one that is read, and one that nobody reads."""
+"""Tries bpfrec live with an OUT that is a named pipe: one that is read, and one that nobody reads."""
 
 import os
 import signal
@@ -45,7 +45,7 @@ def test_a_pipe_that_nobody_reads_is_said_and_a_signal_ends_all(work: Path, endi
     os.kill(running.process.pid, ending)
     status, printed = running.ended()
     judge(f"{ending.name} ends it", time.monotonic() - begun < 10, time.monotonic() - begun)
-    line = f"live: nobody reads {out}: nothing was recorded\n"
+    line = f"bpfrec live: nobody reads {out}: nothing was recorded\n"
     judge("it says why nothing was recorded", status == 3 and line in running.told(), (status, running.told()))
     judge("and nothing is left", nothing_left(work) and not processes_of(out), printed)
 

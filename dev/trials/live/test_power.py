@@ -1,4 +1,4 @@
-"""Cuts the power at fifty drawn moments while host/bin/live records: what was forced to the disk by then is there,
+"""Cuts the power at fifty drawn moments while bpfrec live records: what was forced to the disk by then is there,
 whole.
 
 The disk is a file system in an image, which is copied as it is at that moment and mounted: its journal is all that it

@@ -1,4 +1,4 @@
-"""Tries that a recording is the same with and without host/bin/live --prefilter.
+"""Tries that a recording is the same with and without bpfrec live --prefilter.
 
 Each listing has an interface of its own, over which mixed frames come in and go out. Two recordings run over all of
 these interfaces at once, one of them with --prefilter, and what they kept is compared frame for frame. A scratch word

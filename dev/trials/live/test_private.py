@@ -1,4 +1,4 @@
-"""Tries host/bin/live whose private folder is on a disk that is full soon: what is recorded and lost is reported all the same."""
+"""Tries bpfrec live whose private folder is on a disk that is full soon: what is recorded and lost is reported all the same."""
 
 import time
 from pathlib import Path
@@ -41,7 +41,9 @@ def test_report_audit_and_losses_survive_a_full_tmpdir(work: Path) -> None:
         (disk / "filler").unlink()
         left = nothing_left(work)
     told = running.told()
-    judge("losses are told", told.endswith("live: rx0 LOST 0 dropped 7 skipped\n") and status == 5, (status, told))
+    judge(
+        "losses are told", told.endswith("bpfrec live: rx0 LOST 0 dropped 7 skipped\n") and status == 5, (status, told)
+    )
     judge_recorded(work, (printed, told), [out], 107)
     judge("so are the report and the audit", " offered 100 kept 100 " in printed and YES in printed, printed)
     facts = facts_of(out)

@@ -1,4 +1,4 @@
-"""Tries host/bin/publish and live --publish: by a receiver of its own beside host/bin/receive, and where nobody listens or no
+"""Tries bpfrec publish and live --publish: by a receiver of its own beside bpfrec receive, and where nobody listens or no
 route leads."""
 
 from __future__ import annotations
@@ -29,13 +29,12 @@ from ground import (
     write_facts,
 )
 from recordings import Traffic, begin, extracted, facts_of, is_approved, nothing_left, recordings, settings_of_one
-from support import LIVE, PREFLIGHT, ROOT, judge, judge_quietly, outcome, run, wait_for
+from support import CHECK_CH10, LIVE, PREFLIGHT, judge, judge_quietly, outcome, run, wait_for
 from whole_file import INDEX, Origin, Setup
 from whole_file_parts import ORIGIN, SAMPLE_SETUP, parts_of, recorded, sample_recording
 
 WANTED = {"bin/bpfrec": "make build", "bin/capture": "make build", "ip": "iproute2"}
 pytestmark = [pytest.mark.usefixtures("namespace")]
-CHECK = ROOT / "host/bin/check_ch10"
 NO_INDEX = "the file doesn't end with a root that names all"
 
 
@@ -60,7 +59,7 @@ def test_the_packets_are_those_of_a_whole_file(work: Path, seed: int, most: int)
     judge("counts", (received.datagrams, received.packets) == (sent.datagrams, len(wanted)), (sent, received))
     judge("the file", parts_of(receiver.out.read_bytes()) == wanted)
     faults = [
-        it for it in outcome(CHECK, receiver.out).stdout.splitlines() if not it.startswith(("channel", "packets"))
+        it for it in outcome(CHECK_CH10, receiver.out).stdout.splitlines() if not it.startswith(("channel", "packets"))
     ]
     judge("the index alone is missing", [it.partition(" ")[2] for it in faults] == [NO_INDEX], faults)
     channels = sorted({it.channel for it in wanted if it.kind == FRAMES})
@@ -110,7 +109,7 @@ def test_nobody_listens(work: Path) -> None:
     judge("it ends well", status == 0 and is_approved(work / "flight.ch11"), running.told())
     frames = [it["frames"] for it in facts_of(work / "flight.ch11")["counts"]]
     judge("with all frames", frames == [sent, sent], (frames, sent))
-    line = f"live: publish {address}: connection refused: datagrams lost: 1"
+    line = f"bpfrec live: publish {address}: connection refused: datagrams lost: 1"
     judge("a line says so", line in running.told().splitlines(), running.told())
     (last,) = [it for it in running.told().splitlines() if "published packets" in it]
     judge("and the last one", published(f"{last}\n").lost > 0, last)
@@ -120,7 +119,7 @@ def test_a_route_that_comes_later_is_taken(work: Path) -> None:
     address = "192.0.2.77:50077"
     running = begin(work, work / "flight.ch11", "--quiet", "--publish", address)
     traffic = Traffic()
-    wait_for("a line", lambda: f"live: publish {address}: no route: " in running.told())
+    wait_for("a line", lambda: f"bpfrec live: publish {address}: no route: " in running.told())
     run("ip", "addr", "add", "192.0.2.77/32", "dev", "lo")
     with socket.socket(socket.AF_INET, socket.SOCK_DGRAM) as made:
         made.bind(("192.0.2.77", 50_077))
@@ -152,7 +151,7 @@ def test_a_full_socket_ends_no_publisher(work: Path) -> None:
         done = outcome(PUBLISH, "--fast", path, station.address, seconds=60)
     station.close()
     judge("it ends", done.returncode == 0 and published(done.stderr).lost > 0, done)
-    judge("and says why", f"publish: {station.address}: socket full: " in done.stderr, done.stderr)
+    judge("and says why", f"bpfrec publish: {station.address}: socket full: " in done.stderr, done.stderr)
 
 
 def test_a_group_is_sent_to_by_an_interface(work: Path) -> None:
@@ -225,7 +224,11 @@ def test_what_cannot_be_published_is_refused(work: Path) -> None:
     path = work / "flight.ch11"
     path.write_bytes(sample_recording())
     refused: list[tuple[list[object], int, str]] = [
-        ([path, "127.0.0.1:50000"], 1, f"publish: {path}: no facts beside it: --origin says when it was recorded"),
+        (
+            [path, "127.0.0.1:50000"],
+            1,
+            f"bpfrec publish: {path}: no facts beside it: --origin says when it was recorded",
+        ),
         ([work / "none.ch11", "127.0.0.1:5"], 1, "there is no such recording"),
         ([work, "127.0.0.1:5"], 1, "it is no regular file, which could be followed"),
         ([path, "ground:5"], 2, "ground:5: needs ADDRESS:PORT"),
@@ -258,7 +261,7 @@ def test_live_refuses_what_it_cannot_publish(work: Path) -> None:
             judge(what, done.returncode == 2 and what in done.stderr, done)
     os.mkfifo(work / "pipe")
     done = outcome(LIVE, "--publish", "127.0.0.1:5", settings, work / "pipe", "rx0=1")
-    judge("a pipe", (done.returncode, done.stderr) == (2, "live: --publish needs an OUT that is a file\n"), done)
+    judge("a pipe", (done.returncode, done.stderr) == (2, "bpfrec live: --publish needs an OUT that is a file\n"), done)
     words = ("--publish", "239.1.2.3:5,interface=none0", settings, work / "x.ch11", "rx0=1")
     done = outcome(PREFLIGHT, "--live", *words)
     judge("an interface that is missing", "--publish 239.1.2.3:5: no such interface: none0" in done.stdout, done)

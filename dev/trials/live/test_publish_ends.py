@@ -26,13 +26,13 @@ from recordings import (
     recordings,
     settings_of,
 )
-from support import LIVE, ROOT, Running, judge, judge_quietly, present, wait_for
+from support import LIVE, TOOLS, Running, judge, judge_quietly, present, wait_for
 from whole_file import SETUP, TIME
 from whole_file_parts import parts_of
 
 WANTED = {"bin/bpfrec": "make build", "bin/capture": "make build", "ip": "iproute2"}
 pytestmark = [pytest.mark.usefixtures("namespace")]
-CONTROL = ROOT / "host/bin/control"
+CONTROL = TOOLS / "tell"
 
 
 def has_more(station: Station, count: int) -> bool:
@@ -144,7 +144,7 @@ def test_what_a_replay_leaves_out_is_counted(work: Path) -> None:
     wait_for("it is sent", lambda: station.datagrams)
     publisher.terminate()
     _, told = publisher.communicate(timeout=30)
-    found = re.match(rf"publish: {path}: (\d+) packets are left out\n", told)
+    found = re.match(rf"bpfrec publish: {path}: (\d+) packets are left out\n", told)
     judge("it ends well, and says it", publisher.returncode == 0 and found, told)
     total, sent = len(parts_of(path.read_bytes())), parts_of(packets_in(station.close()))
     count = len([it for it in sent if it.kind not in (SETUP, TIME)])

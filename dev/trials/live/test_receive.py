@@ -1,4 +1,4 @@
-"""Tries host/bin/receive on what a network does to datagrams, and what it refuses."""
+"""Tries bpfrec receive on what a network does to datagrams, and what it refuses."""
 
 from __future__ import annotations
 
@@ -39,7 +39,7 @@ def test_what_a_network_loses_doubles_and_exchanges_is_counted(work: Path, seed:
     judge("lost", (received.lost, status) == (relay.lost, 1), (received, relay.lost))
     judge("doubled", (received.doubled, received.damaged) == (relay.doubled, 0), (received, relay.doubled))
     errors = receiver.errors.read_text().splitlines()
-    gaps = sum(int(it.split()[2]) for it in errors if it.startswith("receive: gap "))
+    gaps = sum(int(it.split()[3]) for it in errors if it.startswith("bpfrec receive: gap "))
     judge("each gap is said", gaps == relay.lost, errors)
     got, wanted = parts_of(receiver.out.read_bytes()), parts_of(whole_file_of(work, path))
     rest = Counter(it.data for it in got) - Counter(it.data for it in wanted)
@@ -97,7 +97,7 @@ def test_an_out_that_finds_no_room_ends_it(work: Path) -> None:
     wait_for("it listens", lambda: is_taken(port))
     send(path, f"127.0.0.1:{port}")
     _, told = receiver.communicate(timeout=30)
-    line = "receive: /dev/full: No space left on device\n"
+    line = "bpfrec receive: /dev/full: No space left on device\n"
     judge("a line and a status", (receiver.returncode, told) == (3, line), (receiver.returncode, told))
 
 
@@ -180,7 +180,7 @@ def test_a_publisher_that_was_killed_is_a_gap(work: Path) -> None:
     Sender(port).send(datagrams)
     status, received = receiver.ended()
     judge("it isn't well", (status, received.lost, received.foreign) == (1, 0, 0), received)
-    line = "receive: gap of unknown length: another stream begins before the recording has ended"
+    line = "bpfrec receive: gap of unknown length: another stream begins before the recording has ended"
     judge("a line says so", line in receiver.errors.read_text().splitlines(), receiver.errors.read_text())
     wanted = [it for it in parts_of(whole_file_of(work, path)) if it.kind != INDEX]
     judge("the other has its file", parts_of((work / "ground_00002.ch10").read_bytes()) == wanted)

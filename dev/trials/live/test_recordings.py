@@ -1,4 +1,4 @@
-"""Tries bin/capture and host/bin/live on interfaces: recordings, how they end, and what can't be begun."""
+"""Tries bin/capture and bpfrec live on interfaces: recordings, how they end, and what can't be begun."""
 
 import os
 import re
@@ -105,7 +105,7 @@ def judge_counters(origin: int, sent: list, one: list[int], two: list[int]) -> N
     "name, tell", [("TERM", os.kill), ("HUP", os.killpg), ("INT", os.kill)], ids=["TERM", "HUP", "INT"]
 )
 def test_each_signal_ends_a_recording_well(work: Path, name: str, tell: Callable[[int, int], None]) -> None:
-    """TERM and INT to host/bin/live alone, and HUP to all."""
+    """TERM and INT to bpfrec live alone, and HUP to all."""
     running = Running(work, LIVE, "--quiet", settings_of_one(work), work / f"{name}.ch11", "rx0=1")
     running.wait_until_told("origin")
     send_numbered("tx0", 0, 100)
@@ -175,9 +175,9 @@ def test_what_the_kernel_drops_is_not_offered(work: Path) -> None:
 def refusals(work: Path, settings: Path, out: Path) -> list[tuple]:
     return [
         (["--quiet", settings, out, "nowhere0=1"], 3, "capture: nowhere0: no such interface"),
-        ([settings, out, "rx0=2"], 2, f"live: {settings} has no table [[channel]] with a line id = 2"),
-        ([settings, out, "rx0=1", "rx1=1"], 2, "live: channel 1 has two interfaces"),
-        ([settings, out, "rx0"], 2, "live: rx0: with SETTINGS name its channel, as rx0=1"),
+        ([settings, out, "rx0=2"], 2, f"bpfrec live: {settings} has no table [[channel]] with a line id = 2"),
+        ([settings, out, "rx0=1", "rx1=1"], 2, "bpfrec live: channel 1 has two interfaces"),
+        ([settings, out, "rx0"], 2, "bpfrec live: rx0: with SETTINGS name its channel, as rx0=1"),
         (
             ["--origin", "yesterday", settings, out, "rx0=1"],
             2,
@@ -185,8 +185,8 @@ def refusals(work: Path, settings: Path, out: Path) -> list[tuple]:
             "with -r first too",
         ),
         ([settings, settings, "rx0=1"], 3, f"file {settings}"),
-        ([work / "missing.toml", out, "rx0=1"], 3, f"live: {work / 'missing.toml'}: no such file"),
-        ([settings], 2, "live: it takes SETTINGS and OUT: host/bin/live --help has its arguments"),
+        ([work / "missing.toml", out, "rx0=1"], 3, f"bpfrec live: {work / 'missing.toml'}: no such file"),
+        ([settings], 2, "bpfrec live: it takes SETTINGS and OUT: bpfrec live --help has its arguments"),
     ]
 
 
@@ -272,7 +272,7 @@ def test_a_lacking_permission_is_said_in_one_line(work: Path) -> None:
     )
     calls: list[tuple[Path, list[object]]] = [
         (open_to_all / "bin/capture", ["rx0=-"]),
-        (open_to_all / "host/bin/live", [settings, "/tmp/none.ch11", "rx0=1"]),
+        (open_to_all / "host/bin/bpfrec", ["live", settings, "/tmp/none.ch11", "rx0=1"]),
     ]
     for program, words in calls:
         running = Running(work, program, *words, preexec_fn=lambda: os.setuid(NOBODY))

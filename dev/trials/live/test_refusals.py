@@ -1,4 +1,4 @@
-"""Tries what host/bin/live and host/bin/preflight say of calls that are wrong: in words that say what to do, with
+"""Tries what bpfrec live and bpfrec preflight say of calls that are wrong: in words that say what to do, with
 nothing begun or left."""
 
 import os
@@ -21,7 +21,9 @@ def judge_refused(work: Path, words: list, status: int, told: str, **more: Any) 
     """A call is refused in one line, and nothing is left of it."""
     before = sorted(os.listdir(work))
     running = Running(work, LIVE, *words, cwd=work, adds={RUN: str(work)}, **more)
-    judge(f"refused: {told}", (running.ended()[0], running.told()) == (status, f"live: {told}\n"), running.told())
+    judge(
+        f"refused: {told}", (running.ended()[0], running.told()) == (status, f"bpfrec live: {told}\n"), running.told()
+    )
     wait_for("its programs have ended", lambda: not processes_of(work))
     judge_quietly("nothing is created or left", nothing_left(work) and sorted({*os.listdir(work), "told"}) == before)
 
@@ -50,9 +52,9 @@ def test_recordings_follow_one_another_also_with_options_behind(work: Path) -> N
 
 
 OPTIONS = [
-    (["o.ch11", "rx0", "--events"], "no such option: --events"),
+    (["o.ch11", "rx0", "--events"], "no such option: --events: did you mean --every?"),
     (["o.ch11", "rx0", "-r", "x"], "no such option: -r"),
-    (["--events", "o.ch11", "rx0"], "no such option: --events"),
+    (["--events", "o.ch11", "rx0"], "no such option: --events: did you mean --every?"),
     (["o.ch11", "rx0", "--every"], "--every needs a value"),
     (["o.ch11", "--", "rx0", "--events"], "--events: the name of an interface doesn't begin with -"),
     (["--", "o.ch11", "-x=7"], "-x: the name of an interface doesn't begin with -"),
@@ -105,7 +107,7 @@ def refusals(work: Path) -> list[tuple[list, int, str]]:
         (["--every", "10x", one, "rx0"], 2, f"--every needs a number from 1 to 999999999, {IN_SECONDS}"),
         (["--sync", "9M", one, "rx0"], 2, f"--sync needs a number from 0.01 to 999999999, {IN_PARTS}"),
         (["--span", "326d", one, "rx0"], 2, f"--span needs a number from 0.000001 to 28147497, {IN_PARTS}"),
-        (["--size", "2GB", one, "rx0"], 2, f"--size needs a number from 1 on, {IN_BYTES}"),
+        (["--size", "2GiB", one, "rx0"], 2, f"--size needs a number from 1 on, {IN_BYTES}"),
         (["--keep-free", "1m", one, "rx0"], 2, f"--keep-free needs a number from 1 on, {IN_BYTES}"),
     ]
 
@@ -144,7 +146,7 @@ def test_times_and_sizes_have_units(work: Path) -> None:
 
     given = arguments.read(["o.ch11", "rx0", "--every", "10m", "--size", "2G", "--sync", "5s", "--keep-free", "10k"])
     judge("minutes, G, s, k", (given.every, given.size, given.sync, given.keep_free) == (600, 2 * 10**9, 5, 10_000))
-    given = arguments.read(["o.ch11", "rx0", "--every", "2h", "--for", "1d", "--size", "3M"])
+    given = arguments.read(["o.ch11", "rx0", "--every", "2h", "--for", "1d", "--size", "3MB"])
     judge("hours, days, M", (given.every, given.seconds, given.size) == (7_200, 86_400, 3 * 10**6))
 
 
@@ -178,7 +180,7 @@ def test_a_tmpdir_that_is_not_utf8_is_refused_by_name(work: Path) -> None:
     line = f"TMPDIR is not UTF-8: {holder!r}"
     words = [work / "o.ch11", "rx0"]
     running = Running(work, LIVE, *words, adds={RUN: str(work), "TMPDIR": holder})
-    judge("live refuses it", (running.ended()[0], running.told()) == (3, f"live: {line}\n"), running.told())
+    judge("live refuses it", (running.ended()[0], running.told()) == (3, f"bpfrec live: {line}\n"), running.told())
     judge("and leaves nothing", os.listdir(holder) == [] and not (work / "o.ch11").exists())
     done = outcome(PREFLIGHT, "--live", *words, env={**os.environ, "TMPDIR": holder})
     judge("preflight says so too", done.returncode == 1 and line in done.stdout, done)

@@ -1,4 +1,4 @@
-"""Tries recordings of host/bin/live of which only the last are kept, and their files."""
+"""Tries recordings of bpfrec live of which only the last are kept, and their files."""
 
 import contextlib
 import os
@@ -24,11 +24,11 @@ from recordings import (
     recordings,
     settings_of,
 )
-from support import BPFREC, LIVE, Running, judge, judge_quietly, run, wait_for
+from support import BPFREC, LIVE, ROOT, Running, judge, judge_quietly, run, wait_for
 
 WANTED = {"bin/bpfrec": "make build", "bin/capture": "make build", "ip": "iproute2", "mount": "mount"}
 pytestmark = [pytest.mark.timed, pytest.mark.usefixtures("namespace")]
-REMOVED = re.compile(r"live: (\S+) was removed: (.*)\n")
+REMOVED = re.compile(r"bpfrec live: (\S+) was removed: (.*)\n")
 
 # ---- a ring
 
@@ -98,23 +98,26 @@ def test_keep_free_makes_room_by_the_oldest(work: Path) -> None:
 
 def test_options_of_the_ring_that_contradict_are_refused(work: Path) -> None:
     settings, out = settings_of(work), work / "no.ch11"
-    together = "live: --keep and --keep-free"
+    together = "bpfrec live: --keep and --keep-free"
     cases: list[tuple[list[object], str]] = [
         (["--keep", 3], f"{together} need --every or --size"),
         (
             ["--every", 1, "--keep", 3, "--no-audit"],
             f"{together} remove what was audited, and --no-audit audits nothing",
         ),
-        (["--keep", 0], "live: --keep needs a number from 1 to 999999999"),
-        (["--keep-free", "1x"], "live: --keep-free needs a number from 1 on, in bytes, or as 2G"),
-        (["--mode", "999"], "live: --mode needs a mode of three octal digits, as 0640"),
-        (["--mode", "0444"], "live: --mode needs a mode by which the owner may read and write, as 0640"),
+        (["--keep", 0], "bpfrec live: --keep needs a number from 1 to 999999999"),
+        (["--keep-free", "1x"], "bpfrec live: --keep-free needs a number from 1 on, in bytes, or as 2G"),
+        (["--mode", "999"], "bpfrec live: --mode needs a mode of three octal digits, as 0640"),
+        (["--mode", "0444"], "bpfrec live: --mode needs a mode by which the owner may read and write, as 0640"),
     ]
     for words, line in cases:
         running = Running(work, LIVE, *words, settings, out, "rx0=1", "rx1=2")
         judge(f"refused: {line}", (running.ended()[0], running.told()) == (2, f"{line}\n"), running.told())
     running = Running(work, LIVE, "--span", 1, settings, out)
-    judge("refused: --span without", (running.ended()[0], running.told()) == (2, "live: --span needs an interface\n"))
+    judge(
+        "refused: --span without",
+        (running.ended()[0], running.told()) == (2, "bpfrec live: --span needs an interface\n"),
+    )
 
 
 # ---- files
@@ -159,7 +162,9 @@ def test_a_link_in_the_place_of_out_is_not_followed(work: Path, name: str, words
         (work / name).symlink_to(target)
         running = Running(work, LIVE, "--quiet", *words, settings_of(work), work / "link.ch11", "rx0=1", "rx1=2")
         status, told = running.ended()[0], running.told()
-        judge(f"refused: {told.strip()}", status == 3 and told.startswith(f"live: {work}/{name} is there: "), told)
+        judge(
+            f"refused: {told.strip()}", status == 3 and told.startswith(f"bpfrec live: {work}/{name} is there: "), told
+        )
         judge_quietly("nothing behind it changes", (work / "victim").read_bytes() == b"kept")
         judge_quietly("nothing is created", not (work / "nowhere").exists() and nothing_left(work))
 
@@ -206,7 +211,7 @@ def test_records_where_out_is_moved_at_once(work: Path) -> None:
 
 # ---- hashes that fall behind
 
-# host/bin/live, whose hash takes so many seconds of each recording.
+# bpfrec live, whose hash takes so many seconds of each recording.
 SLOW_HASH = """
 import sys, time
 sys.path.insert(0, {host!r})
@@ -234,7 +239,7 @@ sys.exit(run_tool("live"))
 def begin_slow(work: Path, out: Path, seconds: float, *options: object) -> Running:
     """Records both pairs, with a hash that takes so many seconds."""
     script = work / "slow"
-    script.write_text(SLOW_HASH.format(host=str(LIVE.parent.parent), seconds=seconds))
+    script.write_text(SLOW_HASH.format(host=str(ROOT / "host"), seconds=seconds))
     running = Running(work, "/usr/bin/python3", script, *options, settings_of(work), out, "rx0=1", "rx1=2")
     running.wait_until_told("capture: origin")
     return running
@@ -259,10 +264,10 @@ def test_a_hash_that_falls_behind_keeps_no_recording_from_its_removal(work: Path
     running.interrupt()
     status, told = running.ended()[0], running.told()
     judge("the disk keeps no more than the ring, what goes on, and one in work", most <= 5, most)
-    unhashed = re.findall(r"live: (\S+) has no hash in its facts: it was removed: --keep 2\n", told)
+    unhashed = re.findall(r"bpfrec live: (\S+) has no hash in its facts: it was removed: --keep 2\n", told)
     judge("each is said", len(unhashed) >= 2 and status == 0 and nothing_left(work), told)
     judge("an alarm", "begins unhashed - ring_000" in noted.read_text(), noted.read_text())
-    judge("what the end waits for is said", "live: waits for the hash of " in told, told)
+    judge("what the end waits for is said", "bpfrec live: waits for the hash of " in told, told)
     left = [facts_of(it) for it in recordings(work, "ring")]
     judge("what is left has its hash", len(left) == 2 and all(it["sha256"] for it in left), left)
     names = {os.path.basename(it) for it in unhashed}

@@ -1,4 +1,4 @@
-"""Tries recordings of host/bin/live that follow one another: under traffic, at signals, without interfaces or room."""
+"""Tries recordings of bpfrec live that follow one another: under traffic, at signals, without interfaces or room."""
 
 import os
 import re
@@ -56,7 +56,7 @@ def test_recordings_follow_one_another_by_time_and_size_without_a_gap(
     )
     judge(
         "which was told once, and the wrong line too",
-        0 < first <= FRAMES and told.count("installed") == 1 and told.count("refused 0 Line") == 1,
+        0 < first <= FRAMES and told.count("installed") == 1 and told.count("no line no, and help has all") == 1,
     )
     judge_quietly("nothing is left", nothing_left(work))
 
@@ -106,7 +106,7 @@ def test_recordings_go_on_without_an_interface(work: Path) -> None:
 
 @pytest.mark.parametrize("turn", range(10))
 def test_a_signal_in_a_handover_loses_no_frame(work: Path, turn: int) -> None:
-    """To host/bin/live alone; and to all, as soon as the next recording's file is there."""
+    """To bpfrec live alone; and to all, as soon as the next recording's file is there."""
     settings = settings_of(work)
     running = Running(work, LIVE, "--quiet", "--every", 1, settings, work / "turn.ch11", "rx0=1", "rx1=2")
     running.wait_until_told("origin")
@@ -137,7 +137,7 @@ def test_a_recording_goes_on_where_no_further_file_can_be_created(work: Path) ->
             sent += 20
         running.interrupt()
         status, printed = running.ended()
-        told = f"live: {disk}/full_00002.ch11 can't be begun: {disk}/full_00001.ch11 goes on"
+        told = f"bpfrec live: {disk}/full_00002.ch11 can't be begun: {disk}/full_00001.ch11 goes on"
         judge(
             "where no recording can be begun the last goes on, which is told once",
             status == 0
@@ -155,26 +155,30 @@ def refusals(work: Path, settings: Path, out: Path) -> list[tuple]:
     own = work / "own.toml"
     tables = [f'[[channel]]\nid = {channel}\nfilter = "{work}/all"\n' for channel in (1, 5)]
     own.write_text("".join(tables) + 'feed = "own"\n')
-    needs = "live: --every and --size need an interface"
+    needs = "bpfrec live: --every and --size need an interface"
     return [
         (["--every", 1, own, out, "rx0=1"], 2, f"{needs} for each channel, and 5 of {own} has none"),
         (
             ["--every", 0, settings, out, "rx0=1", "rx1=2"],
             2,
-            "live: --every needs a number from 1 to 999999999, in seconds, or as 10m",
+            "bpfrec live: --every needs a number from 1 to 999999999, in seconds, or as 10m",
         ),
         (
             ["--size=1x", settings, out, "rx0=1", "rx1=2"],
             2,
-            "live: --size needs a number from 1 on, in bytes, or as 2G",
+            "bpfrec live: --size needs a number from 1 on, in bytes, or as 2G",
         ),
         (["--size", 5, settings, out], 2, needs),
         (
             ["--size", 5, settings, "/dev/null", "rx0=1", "rx1=2"],
             2,
-            "live: --every and --size make files, and /dev/null is not a file",
+            "bpfrec live: --every and --size make files, and /dev/null is not a file",
         ),
-        (["--size", 5, settings, work / "no/x.ch11", "rx0=1", "rx1=2"], 3, f"live: {work}/no/x.ch11: no such folder"),
+        (
+            ["--size", 5, settings, work / "no/x.ch11", "rx0=1", "rx1=2"],
+            3,
+            f"bpfrec live: {work}/no/x.ch11: no such folder",
+        ),
         (["--quiet", "--size", 5, settings, out, "rx0=1", "nowhere0=2"], 3, "capture: nowhere0: no such interface"),
     ]
 

@@ -1,4 +1,4 @@
-"""Tries host/bin/live as a service: what it tells the service manager, by a socket that is played, and with which
+"""Tries bpfrec live as a service: what it tells the service manager, by a socket that is played, and with which
 rights."""
 
 import os
@@ -91,7 +91,7 @@ def test_the_capture_alone_has_the_permission_of_the_unit(work: Path, namespace:
     out = work / "rights.ch11"
     user = ["setpriv", f"--reuid={NOBODY}", f"--regid={NOBODY}", "--clear-groups"]
     rights = ["--inh-caps=-all,+net_raw", "--ambient-caps=+net_raw", "--bounding-set=-all,+net_raw", "--no-new-privs"]
-    words = [*user, *rights, place / "host/bin/live", "--quiet", settings, out, "rx0=1", "rx1=2"]
+    words = [*user, *rights, place / "host/bin/bpfrec", "live", "--quiet", settings, out, "rx0=1", "rx1=2"]
     adds = {RUN: str(out), "BPFREC": str(place / "bin/bpfrec"), "CAPTURE": str(place / "bin/capture")}
     running = Running(work, *words, adds=adds, cwd=work)
     running.wait_until_told("capture: origin")
@@ -120,7 +120,5 @@ def test_the_unit_is_tight_by_the_measure_of_systemd() -> None:
         pytest.skip(f"systemd-analyze says {done.stderr.strip()}")
     judge(f"its exposure is {found[1]}", float(found[1]) <= 2.0)
     text = UNIT.read_text()
-    judge(
-        "no shell stands before host/bin/live", "ExecStart=/opt/bpfrec/host/bin/live " in text and "sh -c" not in text
-    )
+    judge("the unit calls it", "ExecStart=/opt/bpfrec/host/bin/bpfrec live " in text and "sh -c" not in text)
     judge("it may ask for the state of the clock", "adjtimex" in text and "ProtectClock=yes" not in text)

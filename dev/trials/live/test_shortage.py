@@ -1,4 +1,4 @@
-"""Tries host/bin/live where descriptors or watches of files are short: nothing hangs, is left or lost in silence."""
+"""Tries bpfrec live where descriptors or watches of files are short: nothing hangs, is left or lost in silence."""
 
 import concurrent.futures
 import contextlib
@@ -78,7 +78,7 @@ def test_too_few_descriptors_are_refused_ahead_and_nothing_is_left(work: Path, o
             running.interrupt()
             judge(f"{limits}: it records", running.ended()[0] == 0, running.told())
         else:
-            line = f"live: it needs {needed} descriptors, and may have {limits[1]}: ulimit -n {needed}\n"
+            line = f"bpfrec live: it needs {needed} descriptors, and may have {limits[1]}: ulimit -n {needed}\n"
             judge(f"{limits}: refused", (running.ended()[0], running.told()) == (3, line), running.told())
         wait_for("all has ended", functools.partial(none_of, here), 10)
         is_refused = limits[1] < needed

@@ -1,4 +1,4 @@
-"""Tries what host/bin/live --sign leaves of a run of four recordings, and that host/bin/check_sums refuses each thing
+"""Tries what bpfrec live --sign leaves of a run of four recordings, and that bpfrec check refuses each thing
 that was changed in it."""
 
 import contextlib
@@ -31,7 +31,7 @@ from signing import (
     signature_of,
     without_ssh,
 )
-from support import CHECK_SUMS, ROOT, judge, judge_quietly, outcome, run
+from support import ROOT, judge, judge_quietly, outcome, run, sums
 
 WANTED = {"bin/bpfrec": "make build", "bin/capture": "make build", "ip": "iproute2", **NEEDED}
 # Which has the commands by which recordings are verified without the source tree.
@@ -122,15 +122,6 @@ def says_the_page(part: Path) -> bool:
     (command,) = re.findall(r"^\$ (grep -q .* && echo the hash is right)$", PAGE.read_text(), re.MULTILINE)
     done = outcome("sh", "-c", command.replace("bin/signed_00001.ch11", str(part)))
     return done.stdout == "the hash is right\n"
-
-
-def test_the_page_asks_for_the_hash_of_the_recording_alone(flight: Flight) -> None:
-    """One that took the place of the next has the hash of the one before."""
-    for part in flight.parts:
-        judge_quietly(f"{part.name} is right", says_the_page(part), facts_file(part).read_text())
-    one, two = flight.parts[:2]
-    shutil.copy(one, two)
-    judge("an exchanged one is not", not says_the_page(two), facts_file(two).read_text())
 
 
 def test_the_last_line_is_that_of_the_sums_still(flight: Flight) -> None:
@@ -279,7 +270,7 @@ def test_arguments_of_check_sums_that_are_wrong(flight: Flight, work: Path) -> N
     line = f"file {work}/none.ch11: No such file or directory\n"
     judge("no recording", (done.returncode, done.stderr) == (3, line), done)
     for words in (("--identity", SIGNER, part), ("--signers", flight.signers, "-"), (part, "-")):
-        done = outcome(CHECK_SUMS, *words)
+        done = sums(*words)
         judge_quietly(f"{words}", done.returncode == 2 and "error: " in done.stderr, done)
-    done = outcome(CHECK_SUMS, "--signers", flight.signers, part, env={**os.environ, "PATH": without_ssh(work)})
+    done = sums("--signers", flight.signers, part, env={**os.environ, "PATH": without_ssh(work)})
     judge("no ssh-keygen", done.returncode == 3 and "openssh-client" in done.stderr, done)

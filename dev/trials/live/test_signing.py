@@ -1,4 +1,4 @@
-"""Tries how host/bin/live --sign signs: with which keys, and what comes of a signature that fails, a kill, a second
+"""Tries how bpfrec live --sign signs: with which keys, and what comes of a signature that fails, a kill, a second
 signal, and files that were changed."""
 
 import contextlib
@@ -26,7 +26,7 @@ from signing import (
     signature_of,
     without_ssh,
 )
-from support import BPFREC, INFO, LIVE, PREFLIGHT, ROOT, Running, judge, judge_quietly, outcome, run, wait_for
+from support import BPFREC, INFO, LIVE, PREFLIGHT, TOOLS, Running, judge, judge_quietly, outcome, run, wait_for
 
 WANTED = {"bin/bpfrec": "make build", "bin/capture": "make build", "ip": "iproute2", **NEEDED}
 PASSPHRASE = "a passphrase of a trial"
@@ -42,7 +42,7 @@ def refused(work: Path, key: object, **adds: str) -> str:
     judge_quietly("nothing is begun", status == 3 and not list(work.glob("no.ch11*")) and nothing_left(work), told)
     words = ["--live", "--sign", key, settings_of(work), work / "no.ch11", "rx0=1", "rx1=2"]
     done = outcome(PREFLIGHT, *words, env={**os.environ, **adds})
-    reason = told.removeprefix("live: ").strip()
+    reason = told.removeprefix("bpfrec live: ").strip()
     judge_quietly("preflight says the same", done.returncode != 0 and reason in done.stdout + done.stderr, done)
     return reason
 
@@ -67,7 +67,11 @@ def test_a_key_that_can_not_sign_is_refused_at_the_start(work: Path) -> None:
 
 def test_a_run_without_interfaces_has_no_facts_to_sign(work: Path) -> None:
     running = Running(work, LIVE, "--sign", made_key(work, "fc1"), settings_of(work), work / "no.ch11")
-    judge("refused", (running.ended()[0], running.told()) == (2, "live: --sign needs an interface\n"), running.told())
+    judge(
+        "refused",
+        (running.ended()[0], running.told()) == (2, "bpfrec live: --sign needs an interface\n"),
+        running.told(),
+    )
 
 
 def test_a_name_that_has_no_room_for_a_signature_is_refused(work: Path, namespace: None) -> None:
@@ -75,7 +79,7 @@ def test_a_name_that_has_no_room_for_a_signature_is_refused(work: Path, namespac
     key = made_key(work, "fc1")
     out = work / ("x" * 243)
     running = Running(work, LIVE, "--sign", key, settings_of(work), out, "rx0=1", "rx1=2")
-    line = f"live: {out}: its name has 243 bytes, and may have 242 with its facts beside it\n"
+    line = f"bpfrec live: {out}: its name has 243 bytes, and may have 242 with its facts beside it\n"
     judge("a byte too long", (running.ended()[0], running.told()) == (3, line), running.told())
     done = outcome(PREFLIGHT, "--live", "--sign", key, settings_of(work), out, "rx0=1", "rx1=2")
     judge("preflight says so", "may have 242" in done.stdout, done)
@@ -93,7 +97,7 @@ def test_signing_takes_no_more_descriptors_than_it_asks_for(work: Path, namespac
         set_limit = functools.partial(resource.setrlimit, resource.RLIMIT_NOFILE, (limit, limit))
         running = Running(work, "/usr/bin/python3", *words, preexec_fn=set_limit)
         if limit < 40:
-            line = f"live: it needs 40 descriptors, and may have {limit}: ulimit -n 40\n"
+            line = f"bpfrec live: it needs 40 descriptors, and may have {limit}: ulimit -n 40\n"
             judge("one too few", (running.ended()[0], running.told()) == (3, line), running.told())
             continue
         running.wait_until_told("capture: origin")
@@ -142,7 +146,7 @@ def test_a_signature_that_fails_is_told_and_the_recording_stays(work: Path, name
     Path(f"{key}.pub").unlink()
     running.interrupt()
     status, told = running.ended()[0], running.told()
-    line = f"live: {out}.json isn't signed: Couldn't load public key {key}: No such file or directory\n"
+    line = f"bpfrec live: {out}.json isn't signed: Couldn't load public key {key}: No such file or directory\n"
     judge("a line, and status 1", status == 1 and told.count(line) == 1, (status, told))
     judge("an alarm", f"begins unsigned - {out.name}.json isn't signed: " in noted.read_text(), noted.read_text())
     judge("the recording stays, with its hash", is_approved(out) and facts_of(out)["sha256"] == hash_of(out))
@@ -172,7 +176,7 @@ def test_a_kill_ahead_of_the_signature_leaves_whole_facts(work: Path, namespace:
     facts = facts_of(out)
     judge("they are whole", faults(facts, schema_of("facts")) == [] and facts["sha256"] == hash_of(out), facts)
     judge("and unsigned", not signature_of(out).exists())
-    judge_refused("check_sums says so", checked(allowed(work, fc1=key), out), "signature none")
+    judge_refused("check says so", checked(allowed(work, fc1=key), out), "signature none")
     done = outcome(INFO, out)
     judge("info works", done.returncode == 0 and "rx0" in done.stdout, done)
     wait_for("ssh-keygen has ended", lambda: not sleeping(work))
@@ -194,7 +198,7 @@ def test_a_second_signal_ends_what_is_being_signed(work: Path, namespace: None) 
     wait_for("it is being signed", (work / "played_ssh/again").exists)
     running.interrupt()
     status, told = running.ended()[0], running.told()
-    line = f"live: {out}.json isn't signed: the run was ended\n"
+    line = f"bpfrec live: {out}.json isn't signed: the run was ended\n"
     judge("it ends", status == 1 and line in told and nothing_left(work), (status, told))
     judge("the recording is approved and hashed", is_approved(out) and facts_of(out)["sha256"] == hash_of(out))
 
@@ -204,7 +208,7 @@ def test_force_leaves_no_signature_of_what_was_there(work: Path, namespace: None
     out = work / "one.ch11"
     signature_of(out).write_text("another's\n")
     running = Running(work, LIVE, settings_of(work), out, "rx0=1", "rx1=2")
-    line = f"live: {signature_of(out)} is there: give it another name, or --force\n"
+    line = f"bpfrec live: {signature_of(out)} is there: give it another name, or --force\n"
     judge("refused", (running.ended()[0], running.told()) == (3, line), running.told())
     running = begin(work, out, "--quiet", "--force")
     running.interrupt()
@@ -221,7 +225,7 @@ def test_keep_removes_signatures_and_whole_files_follow(work: Path, namespace: N
     left = {f"{it.name}{ending}" for it in parts for ending in ("", ".json", ".json.sig", ".ch10")}
     judge("with what goes with them alone", {it.name for it in work.glob("ring_*")} == left, list(work.glob("ring_*")))
     again = work / "again.ch10"
-    run(ROOT / "host/bin/chapter11", parts[0], again)
+    run(TOOLS / "export", parts[0], again)
     judge(
         "whole files can be made again of what was signed", again.read_bytes() == Path(f"{parts[0]}.ch10").read_bytes()
     )
@@ -249,7 +253,7 @@ def test_a_recording_that_is_gone_has_no_hash(work: Path, namespace: None) -> No
         (work / "go").touch()
         status, told = running.ended()[0], running.told()
         why = "it was removed or moved, or another file has its name"
-        judge(f"{name}: it is said", f"live: {out} has no hash in its facts: {why}\n" in told, told)
+        judge(f"{name}: it is said", f"bpfrec live: {out} has no hash in its facts: {why}\n" in told, told)
         judge(
             "and that it isn't signed", f"{out}.json isn't signed: its recording has no hash\n" in told and status == 1
         )

@@ -1,4 +1,4 @@
-"""Tries host/bin/live --span: packets that are written by their age, and the filters of a channel, which it leaves alone."""
+"""Tries bpfrec live --span: packets that are written by their age, and the filters of a channel, which it leaves alone."""
 
 from __future__ import annotations
 

@@ -1,4 +1,4 @@
-"""Tries ways to start host/bin/live: however it is started it records, and INT and TERM end it with status 0."""
+"""Tries ways to start bpfrec live: however it is started it records, and INT and TERM end it with status 0."""
 
 import contextlib
 import os
@@ -19,7 +19,7 @@ pytestmark = [pytest.mark.timed, pytest.mark.usefixtures("namespace")]
 
 
 class Start:
-    """A way to start host/bin/live, and the signal that ends it."""
+    """A way to start bpfrec live, and the signal that ends it."""
 
     def __init__(self, work: Path, name: str, words: list, options: list, number: signal.Signals) -> None:
         self.name = f"{name}{' with --every' if options else ''}"

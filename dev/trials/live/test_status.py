@@ -1,4 +1,4 @@
-"""Tries host/bin/live --status and its table on a terminal, on two pairs of interfaces."""
+"""Tries bpfrec live --status and its table on a terminal, on two pairs of interfaces."""
 
 from __future__ import annotations
 
@@ -83,7 +83,7 @@ def test_another_address_is_asked_by_it_and_by_names_that_are_given(work: Path) 
     judge("it ends well", live.ended()[0] == 0, live.told())
     other = outcome(LIVE, "--status-name", "tap", work / "x.ch11", "rx0")
     told = (other.returncode, other.stderr)
-    judge("names without a page are refused", told == (2, "live: --status-name needs --status\n"), told)
+    judge("names without a page are refused", told == (2, "bpfrec live: --status-name needs --status\n"), told)
 
 
 def test_the_status_tells_of_recordings_that_follow(work: Path) -> None:
@@ -124,7 +124,7 @@ def test_a_wrong_address_is_refused_before_recording(work: Path) -> None:
     with socket.create_server(("127.0.0.1", 0)) as other:
         port = other.getsockname()[1]
         done = outcome(LIVE, "--status", str(port), settings_of(work), work / "x.ch11", "rx0=1", "rx1=2")
-    told = f"live: --status 127.0.0.1:{port}: Address already in use\n"
+    told = f"bpfrec live: --status 127.0.0.1:{port}: Address already in use\n"
     judge("a port that another has", (done.returncode, done.stderr) == (3, told), done)
     done = outcome(LIVE, "--status", "here", settings_of(work), work / "x.ch11", "rx0=1", "rx1=2")
     judge("another word", done.returncode == 2 and "--status here: it takes PORT" in done.stderr, done)

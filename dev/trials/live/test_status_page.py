@@ -202,7 +202,7 @@ def test_the_clock_has_its_tile(browser: Browser, flown: Callable) -> None:
     for state, wanted in {
         ClockState(True, 0.000125, "chrony (192.0.2.1)"): "synchronised|chrony (192.0.2.1), off by at most 0.000125 s",
         ClockState(True, 0.0005): "synchronised|off by at most 0.000500 s",
-        ClockState(False, 16.0): "NOT SYNCHRONISED|",
+        ClockState(False, 16.0): "not synchronised|",
         ClockState(): "-|",
     }.items():
         flight.status.clock_seen(state, 0.001)

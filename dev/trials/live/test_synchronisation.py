@@ -1,4 +1,4 @@
-"""Tries what host/bin/live says and asks of the host's clock: with a kernel whose clock isn't synchronised, a chrony and a
+"""Tries what bpfrec live says and asks of the host's clock: with a kernel whose clock isn't synchronised, a chrony and a
 PTP that are played."""
 
 import re
@@ -15,13 +15,13 @@ from support import INFO, LIVE, PREFLIGHT, Running, judge, judge_quietly, outcom
 
 WANTED = {"bin/bpfrec": "make build", "bin/capture": "make build", "ip": "iproute2"}
 pytestmark = [pytest.mark.timed, pytest.mark.usefixtures("namespace")]
-RIGHT = "live: clock: synchronised, off by at most 0.000500 s\n"
-WRONG = "live: clock: not synchronised: --require-clock: the clock is not synchronised\n"
+RIGHT = "bpfrec live: clock: synchronised, off by at most 0.000500 s\n"
+WRONG = "bpfrec live: clock: not synchronised: --require-clock: the clock is not synchronised\n"
 
 
 def clock_of(running: Running) -> list[str]:
     """The lines on the clock."""
-    return re.findall("^live: clock: .*\n", running.told(), re.MULTILINE)
+    return re.findall("^bpfrec live: clock: .*\n", running.told(), re.MULTILINE)
 
 
 def metric(address: str, name: str) -> float | None:
@@ -92,7 +92,9 @@ def test_a_worse_clock_is_refused_before_anything_is_begun(
     words = ["--require-clock", asked_for, settings_of(work), out, "rx0=1", "rx1=2"]
     running = Running(work, LIVE, *words, adds=kernel.adds)
     judge(
-        "by its name", (running.ended(), running.told()) == ((3, ""), f"live: --require-clock: {why}\n"), running.told()
+        "by its name",
+        (running.ended(), running.told()) == ((3, ""), f"bpfrec live: --require-clock: {why}\n"),
+        running.told(),
     )
     judge("nothing was begun", not out.exists() and nothing_left(work))
     told = preflight(work, kernel, *words)
@@ -110,7 +112,7 @@ def test_without_the_option_a_clock_that_nobody_holds_is_said_and_no_alarm(work:
     kernel = Synchronisation(work, False, 16_000_000)
     live = begin(work, work / "n.ch11", "--status", "0", "--quiet", adds=kernel.adds)
     address = address_in(live.told())
-    wait_for("it is said", lambda: clock_of(live) == ["live: clock: not synchronised\n"], 5)
+    wait_for("it is said", lambda: clock_of(live) == ["bpfrec live: clock: not synchronised\n"], 5)
     wait_for("the page has it", lambda: status_of(address)["clock"]["is_synchronised"] is False, 5)
     judge("it is no alarm", state_at(address)[1:] == ([], (0, 0)), state_at(address))
     live.interrupt()
@@ -125,7 +127,7 @@ def test_chrony_and_ptp_are_named(work: Path) -> None:
     out = work / "s.ch11"
     live = begin(work, out, "--quiet", adds=adds)
     source = "chrony (192.0.2.1) and PTP (001122.fffe.334455)"
-    line = f"live: clock: synchronised by {source}, off by at most 0.000500 s\n"
+    line = f"bpfrec live: clock: synchronised by {source}, off by at most 0.000500 s\n"
     wait_for(lambda: f"both are named: {live.told()}", lambda: clock_of(live) == [line], 5)
     live.interrupt()
     judge("it ends well", live.ended()[0] == 0, live.told())
@@ -149,6 +151,6 @@ def test_a_chrony_that_never_answers_holds_up_nothing(work: Path) -> None:
 def test_other_words_are_no_error_of_a_clock(work: Path) -> None:
     for word in ("0", "17", "1m", "fast"):
         done = outcome(LIVE, "--require-clock", word, work / "x.ch11", "rx0")
-        line = "live: --require-clock needs a number from 0.000001 to 16, in seconds, or as 10ms or 500us\n"
+        line = "bpfrec live: --require-clock needs a number from 0.000001 to 16, in seconds, or as 10ms or 500us\n"
         judge_quietly(f"{word}: {done.stderr}", (done.returncode, done.stderr) == (2, line))
     judge("each is refused", True)

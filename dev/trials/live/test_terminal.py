@@ -1,4 +1,4 @@
-"""Tries host/bin/live in the foreground of a terminal with job control: typed lines, Ctrl-Z, fg and Ctrl-C; and
+"""Tries bpfrec live in the foreground of a terminal with job control: typed lines, Ctrl-Z, fg and Ctrl-C; and
 terminals that are closed."""
 
 import fcntl
@@ -40,14 +40,16 @@ def test_ctrl_z_stops_live_alone_and_ctrl_c_ends_it_well(work: Path) -> None:
     terminal = Terminal(work, out)
     terminal.type_in(f"{LIVE} --quiet {settings_of(work)} {out} rx0=1 rx1=2")
     wait_for(lambda: f"it records: {terminal.shown!r}", lambda: is_recording(out, out), 10)
-    live = next(pid for pid, words in processes_of(out).items() if "host/bin/live" in words and state_of(pid) != "Z")
+    live = next(
+        pid for pid, words in processes_of(out).items() if "dev/trials/lib/tools/live" in words and state_of(pid) != "Z"
+    )
     send_together(0, 100)
     terminal.type_in(f"set 2 {work}/none")
     terminal.wait_until_shown(b"installed 2 1 ")
     terminal.press(CTRL_Z)
     terminal.wait_until_shown(b"Stopped")
-    lives = [pid for pid, words in processes_of(out).items() if "host/bin/live" in words]
-    judge("Ctrl-Z stops host/bin/live", "T" in [state_of(pid) for pid in lives], live)
+    lives = [pid for pid, words in processes_of(out).items() if "dev/trials/lib/tools/live" in words]
+    judge("Ctrl-Z stops bpfrec live", "T" in [state_of(pid) for pid in lives], live)
     running = [state_of(process_of(out, program)) for program in (CAPTURE, BPFREC)]
     judge("and neither the capture nor the recorder", "T" not in running, running)
     send_together(100, 100)

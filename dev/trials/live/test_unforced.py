@@ -1,4 +1,4 @@
-"""Tries host/bin/live on disks that fail to write back: what is recorded can't be forced to them."""
+"""Tries bpfrec live on disks that fail to write back: what is recorded can't be forced to them."""
 
 import errno
 import json
@@ -39,7 +39,7 @@ def failing(work: Path, first: int, count: int, call: str = "fdatasync") -> dict
 
 
 def line_of(out: Path) -> str:
-    return f"live: {out} can't be forced to its disk: Input/output error\n"
+    return f"bpfrec live: {out} can't be forced to its disk: Input/output error\n"
 
 
 def served(running: Running, name: str) -> str:
@@ -133,7 +133,7 @@ def test_a_recorder_that_cannot_force_its_output_at_the_end_is_told(work: Path) 
     wait_for("facts are there", lambda: has_facts(out), 5)
     running.interrupt()
     status, told = running.ended()[0], running.told()
-    judge("it is told", f"live: {out} can't be forced to its disk: the recorder's fsync failed\n" in told, told)
+    judge("it is told", f"bpfrec live: {out} can't be forced to its disk: the recorder's fsync failed\n" in told, told)
     facts = facts_of(out)
     judge("the status is 1, and the facts say it", (status, bool(facts["sync_fault"])) == (1, True), status)
     judge(

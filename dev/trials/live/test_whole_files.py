@@ -1,4 +1,4 @@
-"""Tries whole Chapter 11 files that host/bin/live makes of its recordings with --chapter11."""
+"""Tries whole Chapter 11 files that bpfrec live makes of its recordings with --chapter11."""
 
 import re
 import stat
@@ -11,12 +11,11 @@ from frames import numbers_in, records
 from ground import Station
 from namespace import send_numbered
 from recordings import Traffic, begin, extracted, is_approved, nothing_left, parts_of, recordings, settings_of
-from support import BPFREC, LIVE, ROOT, Running, judge, judge_quietly, outcome, wait_for
+from support import BPFREC, CHECK_CH10, LIVE, Running, judge, judge_quietly, outcome, wait_for
 
 WANTED = {"bin/bpfrec": "make build", "bin/capture": "make build", "ip": "iproute2"}
 pytestmark = [pytest.mark.timed, pytest.mark.usefixtures("namespace")]
-CHECK = ROOT / "host/bin/check_ch10"
-MADE = re.compile(r"live: (\S+): times \d+ packets \d+ records \d+ index \d+ bytes \d+\n")
+MADE = re.compile(r"bpfrec live: (\S+): times \d+ packets \d+ records \d+ index \d+ bytes \d+\n")
 
 
 def whole_file(out: Path) -> Path:
@@ -29,7 +28,7 @@ def in_work(out: Path) -> Path:
 
 def judge_whole(work: Path, out: Path) -> None:
     """The file beside a recording is right, and has its frames."""
-    done = outcome(CHECK, whole_file(out))
+    done = outcome(CHECK_CH10, whole_file(out))
     judge_quietly(f"{out.name}: it is right", done.returncode == 0, done.stdout[-300:])
     for channel in (1, 2):
         feeds = [extracted(work, it, channel) for it in (out, whole_file(out))]
@@ -101,7 +100,7 @@ def test_a_fault_leaves_the_recording_as_it_is(work: Path) -> None:
     out = work / "fault.ch11"
     adds = played_bpfrec(work, "chapter11) echo 'refused 3 Gap 5'; exit 1")
     status, told = recorded(work, begin(work, out, "--quiet", "--chapter11", adds=adds))
-    judge("it is told", f"live: {whole_file(out)} isn't made: refused 3 Gap 5\n" in told and status == 1, told)
+    judge("it is told", f"bpfrec live: {whole_file(out)} isn't made: refused 3 Gap 5\n" in told and status == 1, told)
     judge("nothing is left of it", not whole_file(out).exists() and is_approved(out))
 
 
@@ -112,7 +111,7 @@ def test_a_full_disk_is_the_reason(work: Path) -> None:
         out = disk / "full.ch11"
         status, told = recorded(work, begin(work, out, "--quiet", "--chapter11", adds=adds))
         file = whole_file(out)
-        line = f"live: {file} isn't made: file {file}: No space left on device\n"
+        line = f"bpfrec live: {file} isn't made: file {file}: No space left on device\n"
         judge("it is said", line in told and status == 3, told)
         judge("nothing is left of it", not file.exists() and is_approved(out))
 
@@ -144,13 +143,15 @@ def test_a_file_in_its_place_is_kept(work: Path) -> None:
             whole_file(out).write_bytes(b"kept")
         running = Running(work, LIVE, "--quiet", "--chapter11", settings_of(work), out, "rx0=1", "rx1=2")
         status, told = running.ended()[0], running.told()
-        judge("refused", status == 3 and told.startswith(f"live: {whole_file(out)} is there: "), told)
+        judge("refused", status == 3 and told.startswith(f"bpfrec live: {whole_file(out)} is there: "), told)
         judge_quietly("nothing is created", not out.exists() and not (work / "nowhere").exists())
     later = work / "later.ch11"
     running = begin(work, later, "--quiet", "--chapter11")
     whole_file(later).write_bytes(b"kept")
     status, told = recorded(work, running)
-    judge("one that came meanwhile is told", f"live: {whole_file(later)} isn't made: File exists\n" in told, told)
+    judge(
+        "one that came meanwhile is told", f"bpfrec live: {whole_file(later)} isn't made: File exists\n" in told, told
+    )
     judge("and kept", whole_file(later).read_bytes() == b"kept" and status == 3 and is_approved(later))
 
 
@@ -194,15 +195,15 @@ def test_options_that_contradict_are_refused(work: Path) -> None:
             "--no-audit",
             "rx0=1",
             "rx1=2",
-        ): "live: --chapter11 is made of what was audited, and --no-audit audits nothing",
-        (): "live: --chapter11 needs an interface",
+        ): "bpfrec live: --chapter11 is made of what was audited, and --no-audit audits nothing",
+        (): "bpfrec live: --chapter11 needs an interface",
     }
     for words, line in cases.items():
         options = [it for it in words if it.startswith("-")]
         running = Running(work, LIVE, "--chapter11", *options, settings, out, *words[len(options) :])
         judge(f"refused: {line}", (running.ended()[0], running.told()) == (2, f"{line}\n"), running.told())
     running = Running(work, LIVE, "--external", settings, out, "rx0=1", "rx1=2")
-    line = "live: --external is for --chapter11 and --publish"
+    line = "bpfrec live: --external is for --chapter11 and --publish"
     judge(
         "and where there is no setup record", (running.ended()[0], running.told()) == (2, f"{line}\n"), running.told()
     )

@@ -15,7 +15,7 @@ from pathlib import Path
 import pytest
 from namespace import socket_into
 from recordings import begin, facts_of, is_approved
-from support import ROOT, judge, judge_quietly, outcome, wait_for
+from support import ROOT, TOOLS, judge, judge_quietly, outcome, wait_for
 
 WANTED = {
     "bin/bpfrec": "make build",
@@ -28,7 +28,7 @@ WANTED = {
     "tshark": "tshark",
 }
 pytestmark = [pytest.mark.timed, pytest.mark.usefixtures("namespace")]
-FOLLOW = ROOT / "host/bin/follow"
+FOLLOW = TOOLS / "follow"
 PICTURES = ROOT / "bin/trials/wireshark"
 SECONDS = 60
 
@@ -50,7 +50,7 @@ def display(work: Path) -> Iterator[str]:
 
 
 class Shark:
-    """Wireshark behind host/bin/follow, with a home and temporary files of its own."""
+    """Wireshark behind bpfrec follow, with a home and temporary files of its own."""
 
     def __init__(self, work: Path, display: str, recording: Path) -> None:
         self.folder = work / "shark"

@@ -46,7 +46,7 @@ def test_filters_are_set_in_words_one_after_the_other(work: Path) -> None:
                 one.send(datagram(port))
             time.sleep(0.3)
     type_line(running, "set 1 udp prt 5004")
-    running.wait_until_told("live: set 1 udp prt 5004: ")
+    running.wait_until_told("bpfrec live: set 1 udp prt 5004: ")
     judge("the expression's fault is tcpdump's", "syntax error" in running.told(), running.told())
     type_line(running, "set 1 missing.txt")
     running.wait_until_told("refused 1 File")
@@ -96,7 +96,7 @@ def test_next_needs_recordings_that_follow_one_another_and_help_says_what_there_
     out = work / "alone.ch11"
     running = begin(work, out, "--quiet", stdin=subprocess.PIPE)
     type_line(running, "next")
-    running.wait_until_told("live: next: recordings follow one another with --every or --size alone")
+    running.wait_until_told("bpfrec live: next: recordings follow one another with --every or --size alone")
     type_line(running, "help")
     running.wait_until_told("set CHANNEL FILTER  gives a channel another filter")
     type_line(running, "stop")
@@ -156,7 +156,7 @@ def test_settings_have_filters_in_words(work: Path) -> None:
     judge("the facts have the words", found == {1: "udp port 5004", 2: f"{work}/drops.bpf"}, found)
     wrong = write_settings(work, 'id = 1\nfilter = "udp prt 5004"')
     done = outcome(LIVE, wrong, work / "wrong.ch11", "rx0=1")
-    line = "live: filter udp prt 5004 of channel 1: tcpdump: "
+    line = "bpfrec live: filter udp prt 5004 of channel 1: tcpdump: "
     judge("a wrong one is refused ahead", done.returncode == 2 and done.stderr.startswith(line), done)
     done = outcome(PREFLIGHT, "--live", wrong, work / "wrong.ch11", "rx0=1")
     judge("preflight says it too", done.returncode == 1 and "filter udp prt 5004 of channel 1: " in done.stdout, done)

@@ -1,5 +1,5 @@
 #!/usr/bin/env python3
-"""Records two interfaces by host/bin/live for an hour, as recordings that follow one another, and judges what is left.
+"""Records two interfaces by bpfrec live for an hour, as recordings that follow one another, and judges what is left.
 
 It needs root, bin/bpfrec and bin/capture (`make build`), and makes a network namespace of its own. Numbered frames
 go into both interfaces all the time; a recording begins every ten seconds, six recordings are kept, and the status is

@@ -3,29 +3,37 @@
 import os
 import pty
 import select
-import sys
 import time
+from collections.abc import Callable
 from pathlib import Path
 
 import pytest
-from support import ROOT, judge, outcome
-
-sys.path.insert(0, str(ROOT / "dev/package"))
-import help_texts
+from bpfrec_host import verbs
+from support import COMMAND, ROOT, judge, outcome
 
 WANTED = {"zsh": "zsh", "fish": "fish"}
-COMPLETIONS = ROOT / "bin/completions"
-COMMANDS = {it.name for it in help_texts.Help().commands}
+COMPLETIONS = ROOT / "dev/package/completions"
 SECONDS = 10
-# What follows the program's name, and the first file that is offered.
-FILES = {
-    "list": "one.ch11",
-    "verify": "two.txt",
-    "asm": "three.bpf",
-    "record": "four.toml",
-    "extract one.ch11 1": "five.feed",
-    "simulate": "six.script",
-    "record four.toml": "one.ch11",
+Offers = Callable[[Path, str], set[str]]
+ENV = {**os.environ, "PATH": f"{COMMAND.parent}:{os.environ['PATH']}"}
+# What follows the command's name, and what is offered: the file of its kind and the folder, values and lines.
+OFFERS = {
+    "list ": {"one.ch11", "sub"},
+    "verify ": {"two.txt", "sub"},
+    "asm ": {"three.bpf", "sub"},
+    "record ": {"four.toml", "sub"},
+    "record four.toml ": {"one.ch11", "sub"},
+    "extract one.ch11 ": set(),
+    "extract one.ch11 1 ": {"five.feed", "sub"},
+    "simulate ": {"six.script", "sub"},
+    "salvage ": {"one.ch11", "sub"},
+    "help a": {"asm", "audit"},
+    "info --h": {"--html", "--help"},
+    "export --as ": {"pcapng", "chapter11"},
+    "live four.toml one.ch11 l": {"lo"},
+    "publish --interface l": {"lo"},
+    "tell control s": {"set", "status", "stop"},
+    "nonsense ": set(),
 }
 
 
@@ -39,65 +47,33 @@ def folder(work: Path) -> Path:
     return made
 
 
-# ---- bash
-
-
-def bash_offers(folder: Path, *words: str) -> set[str]:
+def bash_offers(folder: Path, line: str) -> set[str]:
     """What bash offers for the last word."""
-    function = "_bpfrec" if words[0] == "bpfrec" else "_bpfrec_tool"
     script = (
         f'source "{COMPLETIONS}/bpfrec.bash"; COMP_WORDS=("$@"); COMP_CWORD=$(($# - 1)); '
-        f'{function} "$1"; printf "%s\\n" "${{COMPREPLY[@]}}"'
+        '_bpfrec "$1"; printf "%s\\n" "${COMPREPLY[@]}"'
     )
-    return set(outcome("bash", "--norc", "-c", script, "bash", *words, cwd=folder).stdout.split())
+    done = outcome("bash", "--norc", "-c", script, "bash", "bpfrec", *line.split(" "), cwd=folder, env=ENV)
+    return {it.rstrip("/") for it in done.stdout.split()}
 
 
-def test_bash_offers_the_commands(folder: Path) -> None:
-    judge("bash offers the commands", bash_offers(folder, "bpfrec", "") == COMMANDS | {"help", "--help", "--version"})
-    for words in (["a"], ["help", "a"]):
-        judge("those that begin so", bash_offers(folder, "bpfrec", *words) == {"asm", "audit"})
+def fish_offers(folder: Path, line: str) -> set[str]:
+    """What fish offers."""
+    script = f'source "{COMPLETIONS}/bpfrec.fish"; complete -C "bpfrec {line}"'
+    done = outcome("fish", "--no-config", "-c", script, cwd=folder, env=ENV)
+    return {it.split("\t")[0].rstrip("/") for it in done.stdout.splitlines()}
 
 
-@pytest.mark.parametrize("words", FILES)
-def test_bash_offers_files_by_their_kind(folder: Path, words: str) -> None:
-    found = bash_offers(folder, "bpfrec", *words.split(), "")
-    judge(f"bash offers files by kind: {words}", found == {FILES[words], "sub"}, found)
+@pytest.mark.parametrize("offers", [bash_offers, fish_offers])
+def test_all_verbs_are_offered(folder: Path, offers: Offers) -> None:
+    judge("all verbs", offers(folder, "") == {*verbs.VERBS, "help"}, offers(folder, ""))
 
 
-def test_bash_offers_what_tools_take(folder: Path) -> None:
-    judge("bash offers no file for a number", bash_offers(folder, "bpfrec", "extract", "one.ch11", "") == set())
-    for called in ("bpfrec-info", "./bpfrec-info", "/usr/local/bin/bpfrec-info"):
-        judge(f"options of {called}", bash_offers(folder, called, "--h") == {"--html", "--help"})
-    judge("files of a tool", bash_offers(folder, "bpfrec-salvage", "") == {"one.ch11", "sub"})
-    judge("words of a tool", "to-pcap" in bash_offers(folder, "bpfrec-convert", "t"))
-
-
-# ---- fish
-
-
-def fish_offers(folder: Path, line: str) -> list[str]:
-    """What fish offers, in order."""
-    script = f'source "{COMPLETIONS}/bpfrec.fish"; complete -C "{line}"'
-    done = outcome("fish", "--no-config", "-c", script, cwd=folder)
-    return [it.split("\t")[0] for it in done.stdout.splitlines()]
-
-
-def test_fish_offers_the_commands(folder: Path) -> None:
-    judge("fish offers the commands", set(fish_offers(folder, "bpfrec ")) == COMMANDS | {"help"})
-    judge("that begin so", fish_offers(folder, "bpfrec au") == ["audit"])
-    judge("behind help", set(fish_offers(folder, "bpfrec help a")) == {"asm", "audit"})
-
-
-@pytest.mark.parametrize("words", ["list", "asm", "record", "extract one.ch11 1"])
-def test_fish_offers_files_by_their_kind(folder: Path, words: str) -> None:
-    found = fish_offers(folder, f"bpfrec {words} ")
-    judge(f"fish offers files by kind: {words}", found[:1] == [FILES[words]], found)
-
-
-def test_fish_offers_what_tools_take(folder: Path) -> None:
-    judge("files of a tool", fish_offers(folder, "bpfrec-salvage ")[:1] == ["one.ch11"])
-    judge("options of a tool", "--html" in fish_offers(folder, "bpfrec-info --h"))
-    judge("words of a tool", "from-pcap" in fish_offers(folder, "bpfrec-convert f"))
+@pytest.mark.parametrize("offers", [bash_offers, fish_offers])
+@pytest.mark.parametrize("line", OFFERS)
+def test_what_a_verb_takes_is_offered(folder: Path, offers: Offers, line: str) -> None:
+    found = offers(folder, line)
+    judge(f"bpfrec {line}", found == OFFERS[line], found)
 
 
 # ---- zsh
@@ -108,12 +84,12 @@ def zsh_completes(folder: Path, line: str) -> str:
     process, terminal = pty.fork()
     if process == 0:
         os.chdir(folder)
-        os.execvpe("zsh", ["zsh", "-f", "-i"], {**os.environ, "TERM": "dumb", "HOME": str(folder)})
+        os.execvpe("zsh", ["zsh", "-f", "-i"], {**ENV, "TERM": "dumb", "HOME": str(folder)})
     begun = f"fpath=({COMPLETIONS} $fpath); autoload -Uz compinit; compinit -u -D; unsetopt automenu; echo rea''dy\n"
     os.write(terminal, f"PS1=; {begun}".encode())
     read_until(terminal, b"ready\r\n")
     os.write(terminal, f"{line}\t".encode())
-    time.sleep(0.7)
+    time.sleep(2)
     os.write(terminal, b"\x01print -r -- '<\x05>'\n")
     found = read_until(terminal, b">\r\n")
     os.close(terminal)
@@ -132,12 +108,10 @@ def read_until(terminal: int, wanted: bytes) -> bytes:
 ZSH = {
     "bpfrec aud": "bpfrec audit",
     "bpfrec list ": "bpfrec list one.ch11",
-    "bpfrec asm ": "bpfrec asm three.bpf",
-    "bpfrec record ": "bpfrec record four.toml",
     "bpfrec extract one.ch11 1 ": "bpfrec extract one.ch11 1 five.feed",
     "bpfrec help sim": "bpfrec help simulate",
-    "bpfrec-info --j": "bpfrec-info --json",
-    "bpfrec-salvage ": "bpfrec-salvage one.ch11",
+    "bpfrec info --j": "bpfrec info --json",
+    "bpfrec salvage ": "bpfrec salvage one.ch11",
 }
 
 

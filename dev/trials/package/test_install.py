@@ -1,4 +1,4 @@
-"""Tries the manual page, install and uninstall, and the Debian packages.
+"""Tries the manual pages, install and uninstall, and the Debian packages.
 
 The packages are unpacked into an empty folder and record there. Where DEBIAN_ROOT names a folder with a clean Debian,
 as `debootstrap --variant=minbase bookworm FOLDER` makes one (as root), that of the program is installed there by dpkg,
@@ -19,9 +19,10 @@ sys.path.insert(0, str(ROOT / "dev/package"))
 from typing import Any
 
 import help_texts
+from bpfrec_host import VERSION, verbs
 
 WANTED = {"bin/bpfrec": "make build", "man": "man-db", "mandoc": "mandoc", "dpkg-deb": "dpkg", "tshark": "tshark"}
-PAGE = ROOT / "bin/bpfrec.1"
+PAGES = sorted((ROOT / "bin/man").glob("*.1"))
 SETTINGS = '[[channel]]\nid = 1\nfeed = "one.feed"\nfilter = "all"\n'
 FACTS = '{"facts": 1, "host": "fc1", "origins": [{"origin": "1764590400.250000000", "counter": 0}], "losses": []}'
 PREFIX = "/opt/bpfrec"
@@ -39,25 +40,40 @@ def ran(*words: object, **more: Any) -> tuple[int, str]:
 # ---- the page
 
 
-def test_page_and_completions_are_made_of_the_printed_help() -> None:
+def test_pages_are_made_of_the_printed_help() -> None:
     done = ran(ROOT / "dev/checks/page.py", BPFREC)
-    judge("the page and the completions are of the program's help, which it prints", done[0] == 0, done)
+    judge("the pages are of the program's help, which it prints", done[0] == 0, done)
 
 
-def test_mandoc_finds_nothing_in_the_page() -> None:
-    done = ran("mandoc", "-Tlint", PAGE)
+def test_mandoc_finds_nothing_in_the_pages() -> None:
+    done = ran("mandoc", "-Tlint", *PAGES)
     judge("mandoc -Tlint finds nothing", done == (0, ""), done)
 
 
-def test_man_shows_the_page_with_commands_and_formats() -> None:
+def shown(page: Path) -> str:
+    """What man shows of a page, without a warning."""
     env = {**os.environ, "LC_ALL": "C.UTF-8", "MANWIDTH": "80"}
-    warned = outcome("man", "--warnings", "-l", PAGE, env=env)
-    judge("man -l finds nothing", (warned.returncode, warned.stderr) == (0, ""), warned.stderr)
-    status, text = ran("man", "-l", PAGE, env=env)
-    wanted = [f"bpfrec {it.name}" for it in help_texts.Help().commands]
-    wanted += ["DataChecksum", "16,424 to 524,284", "refused 8 Unset", "no 3 NotAccepted", "bpfrec-info", "SourceEnd"]
+    done = outcome("man", "--warnings", "-l", page, env=env)
+    judge_quietly(f"man -l {page}", (done.returncode, done.stderr) == (0, ""), done.stderr)
+    return done.stdout
+
+
+def test_man_shows_each_verb_and_the_formats() -> None:
+    text = shown(ROOT / "bin/man/bpfrec.1")
+    wanted = [*verbs.VERBS, "DataChecksum", "16,424 to 524,284", "refused 8 Unset"]
     lacking = [it for it in wanted if it not in text]
-    judge("it has each command, and the tables of the formats", status == 0 and not lacking, lacking)
+    judge("bpfrec(1) has each verb, and the tables of the formats", not lacking, lacking)
+    for verb, printed in {"audit": "no 3 NotAccepted", "record": "SourceEnd"}.items():
+        judge(f"bpfrec-{verb}(1) has its help", printed in shown(ROOT / f"bin/man/bpfrec-{verb}.1"))
+    judge("each verb has a page", {it.name for it in PAGES} == {"bpfrec.1", *(f"bpfrec-{it}.1" for it in verbs.VERBS)})
+
+
+def test_the_page_of_a_tool_has_all_its_options() -> None:
+    for name, parser in help_texts.parsers().items():
+        text = shown(ROOT / f"bin/man/bpfrec-{name}.1")
+        options = [option for action in parser._actions for option in action.option_strings]
+        lacking = [it for it in options if it not in text]
+        judge(f"bpfrec-{name}(1)", not lacking and f"bpfrec {name} " in text and "EXAMPLE" in text, lacking)
 
 
 # ---- what is installed
@@ -79,25 +95,22 @@ def judge_tools(folder: Path, programs: Path) -> None:
     env = {it: value for it, value in os.environ.items() if it not in ("BPFREC", "CAPTURE")}
 
     def by(tool: str, *words: object) -> tuple[int, str]:
-        return ran(programs / f"bpfrec-{tool}", *words, cwd=folder, env=env)
+        return ran(programs / "bpfrec", tool, *words, cwd=folder, env=env)
 
     told = by("info", "one.ch11")[1]
     judge("info finds the program", "audit                      yes other 0" in told, told)
     judge("salvage", by("salvage", "one.ch11", "kept.ch11")[1].endswith("lost 0 bytes at 0 places\n"))
-    judge("convert", by("convert", "to-pcap", "one.feed", "one.pcap") == (0, "frames 60\n"))
     (folder / "one.ch11.json").write_text(FACTS)
-    converted = by("convert", "to-pcap", "--force", "--facts", "one.ch11.json", "one.feed", "one.pcap")
-    judge("convert finds what reads facts", converted == (0, "frames 60\n"), converted)
-    setup = by("chapter11", "--print-setup", "one.ch11")
-    judge("so does chapter11", setup[0] == 0 and 'host = "fc1"\n' in setup[1], setup)
+    setup = by("export", "--print-setup", "one.ch11")
+    judge("export finds what reads facts", setup[0] == 0 and 'host = "fc1"\n' in setup[1], setup)
     told = by("info", "one.ch11")[1]
     judge("info too", "  first time                 2025-12-01T12:00:00.2500000Z\n" in told, told)
     (folder / "one.ch11.json").write_text("")
     told = by("info", "one.ch11")[1]
-    judge("and names itself", "bpfrec-info: one.ch11.json: no facts of a recording: " in told, told)
+    judge("and names itself", "bpfrec info: one.ch11.json: no facts of a recording: " in told, told)
     judge("preflight finds the program", by("preflight", "s.toml")[1].endswith("0 faults\n"))
     wanted = folder / "none.toml"
-    judge("live finds the program", by("live", wanted, "out") == (3, f"live: {wanted}: no such file\n"))
+    judge("live finds the program", by("live", wanted, "out") == (3, f"bpfrec live: {wanted}: no such file\n"))
 
 
 def judge_plugin(root: Path) -> None:
@@ -113,11 +126,17 @@ def judge_plugin(root: Path) -> None:
 
 
 def judge_names(programs: Path) -> None:
-    """Each tool that is installed names itself in its help."""
-    for name in [it for it in help_texts.TOOLS if (programs / f"bpfrec-{it}").exists()]:
-        status, told = ran(programs / f"bpfrec-{name}", "--help")
-        judge(f"bpfrec-{name} --help", status == 0 and "usage: " in told and f"host/bin/{name}" not in told, told)
-    judge("live names itself", "usage: bpfrec-live" in ran(programs / "bpfrec-live", "--help")[1])
+    """Each verb says what it takes, the list of all has it, and each has the version."""
+    listed = ran(programs / "bpfrec", "--help")[1]
+    for name in verbs.VERBS:
+        for words in ([name, "--help"], ["help", name]):
+            status, told = ran(programs / "bpfrec", *words)
+            judge_quietly(f"bpfrec {words}", status == 0 and "usage: " in told.lower() and f" {name} " in listed, told)
+        version = ran(programs / "bpfrec", name, "--version")
+        is_said = version[0] == 0 and version[1].endswith(f" {VERSION}\n")
+        judge(f"bpfrec {name} --version", is_said or verbs.VERBS[name].is_proved, version)
+    judge("the command's version", ran(programs / "bpfrec", "--version") == (0, f"bpfrec {VERSION}\n"))
+    judge("one command is there", [it.name for it in programs.iterdir()] == ["bpfrec"])
 
 
 def made(target: str, dest: Path) -> None:
@@ -140,11 +159,11 @@ def test_what_is_installed_records_and_leaves_nothing_beside(work: Path) -> None
     judge_tools(field, programs)
     judge_names(programs)
     judge_plugin(dest)
-    for name in ("bpfrec", "bpfrec-info"):
+    for name in ("bpfrec", "bpfrec-info", "bpfrec-audit"):
         status, found = ran("man", "-M", f"{dest}{PREFIX}/share/man", "-w", name)
         judge(f"man finds {name}", status == 0 and f"{dest}{PREFIX}/share/man/man1/bpfrec" in found, found)
     unit = Path(f"{dest}{PREFIX}/lib/systemd/system/bpfrec.service").read_text()
-    judge("the unit runs what is installed", f"{PREFIX}/bin/bpfrec-live" in unit and "/opt/bpfrec/tools" not in unit)
+    judge("the unit runs what is installed", f"{PREFIX}/bin/bpfrec live" in unit and "/opt/bpfrec/host" not in unit)
     judge(
         "no link leads nowhere, and nothing is left beside",
         all(it.exists() for it in files_in(dest)) and not list(dest.rglob("__pycache__")),
@@ -161,7 +180,7 @@ def installed_in(dest: Path) -> dict[str, tuple]:
 
 
 def test_what_is_installed_may_be_read_by_all_whatever_the_umask(work: Path) -> None:
-    """Whatever the umask, all may be read by all, and programs alone be run; each tool has its page; and a second
+    """Whatever the umask, all may be read by all, and programs alone be run; each verb has its page; and a second
     installation, over one with another umask, makes the same."""
     dest, before = work / "dest", os.umask(0o077)
     try:
@@ -178,8 +197,7 @@ def test_what_is_installed_may_be_read_by_all_whatever_the_umask(work: Path) -> 
             mode == ("0o777" if isinstance(what, str) and what != "folder" else wanted),
         )
     pages = {it.name for it in Path(f"{dest}{PREFIX}/share/man/man1").iterdir()}
-    tools = {f"bpfrec-{it}.1" for it in [*help_texts.TOOLS, "live", "capture"]}
-    judge("each tool has its page", pages == {"bpfrec.1", *tools}, pages ^ tools)
+    judge("each verb has its page", pages == {it.name for it in PAGES}, pages)
     made("install", dest)
     again = installed_in(dest)
     judge("a second installation makes the same", again == first, {it for it in again if again[it] != first.get(it)})
@@ -195,21 +213,6 @@ def test_uninstall_leaves_what_is_anothers_alone(work: Path) -> None:
     made("uninstall", dest)
     judge("nothing is left but what is another's", files_in(dest) == [top / "libexec/bpfrec/other"], files_in(dest))
     judge("and no folder of its own", not (top / "share/doc/bpfrec").exists())
-
-
-def test_what_an_older_installation_had_is_removed(work: Path) -> None:
-    dest = work / "dest"
-    top = Path(f"{dest}{PREFIX}")
-    names = ("libexec/bpfrec/ch11.py", "libexec/bpfrec/bpfrec-feed", "share/man/man1/bpfrec-feed.1")
-    gone = [top / it for it in (*names, "share/doc/bpfrec/FORMATS.md")]
-    for file in gone:
-        file.parent.mkdir(parents=True, exist_ok=True)
-        file.touch()
-    (top / "bin").mkdir()
-    (top / "bin/bpfrec-feed").symlink_to("../libexec/bpfrec/bpfrec-feed")
-    made("install", dest)
-    left = [it for it in [*gone, top / "bin/bpfrec-feed"] if os.path.lexists(it)]
-    judge("names that are gone are removed", not left, left)
 
 
 def test_a_program_without_its_proof_is_not_installed(work: Path) -> None:
@@ -269,7 +272,8 @@ def test_the_package_of_the_program_needs_the_c_library_alone(work: Path, packag
     judge("its field", re.fullmatch(r"Depends: libc6 \(>= 2\.\d+\)\n", depends), depends)
     ran("dpkg-deb", "-x", packages["bpfrec"], work / "root")
     programs = [it for it in files_in(work / "root") if os.access(it, os.X_OK) and not it.is_symlink()]
-    judge("one program is in it", programs == [work / "root/usr/bin/bpfrec"], programs)
+    wanted = {work / "root/usr/bin/bpfrec", work / "root/usr/libexec/bpfrec/bpfrec"}
+    judge("the command and the program are in it", set(programs) == wanted, programs)
     judge("which records", record_in(work, work / "root/usr/bin")[1].endswith("yes other 0\n"))
 
 
@@ -316,17 +320,17 @@ def test_lintian_finds_no_error(packages: dict[str, Path]) -> None:
 
 
 def test_installed_tools_run_nothing_that_the_environment_names(work: Path, unpacked: Path) -> None:
-    tools = unpacked / "usr/libexec/bpfrec/bpfrec-host.pyz"
+    tools = unpacked / "usr/libexec/bpfrec/tool"
     judge("by its first line", tools.read_bytes().startswith(b"#!/usr/bin/python3 -I\n"), tools.read_bytes()[:40])
     (work / "json.py").write_text("raise SystemExit(77)")
     env = {**os.environ, "PYTHONPATH": str(work)}
-    status, told = ran(unpacked / "usr/bin/bpfrec-info", "--help", env=env, cwd=work)
+    status, told = ran(unpacked / "usr/bin/bpfrec", "info", "--help", env=env, cwd=work)
     judge("and a module of the environment isn't taken", status == 0, told)
 
 
 def test_the_unit_records_by_settings_that_are_installed(unpacked: Path) -> None:
     unit = (unpacked / "usr/lib/systemd/system/bpfrec.service").read_text()
-    judge("it runs what is installed", "ExecStart=/usr/bin/bpfrec-live " in unit and "host/bin" not in unit, unit)
+    judge("it runs what is installed", "ExecStart=/usr/bin/bpfrec live " in unit and "host/bin" not in unit, unit)
     judge("the page is for this machine alone", "IPAddressAllow=localhost\nIPAddressDeny=any\n" in unit, unit)
     judge("and a part of the disk stays free", re.search(r" --every \d+ --keep-free 10G ", unit), unit)
     named = re.findall(r"\S+/wire.toml", unit)
@@ -353,13 +357,13 @@ def test_installed_documents_name_what_is_installed(unpacked: Path) -> None:
         judge_quietly(f"the links of {page.name} lead somewhere", missing == [], missing)
     whole = "\n".join(it.read_text() for it in pages)
     others = installed_words(whole)
-    judge(f"{len(pages)} pages name installed commands", others == [] and "bpfrec-live" in whole, others)
-    bare = re.findall(r"^sudo .* bpfrec-capture\b.*", whole, re.M)
+    judge(f"{len(pages)} pages name installed commands", others == [] and "bpfrec live" in whole, others)
+    bare = re.findall(r"^sudo .*(?<!/)capture\b.*", whole, re.M)
     judge("the permission is given to the file, not to a name", bare == [], bare)
     files = set(re.findall(r"(?<![\w/.-])examples/[\w./]*\w|(?<![\w/.-])[A-Z]+\.md", whole))
     # The last is misspelled, and refused.
     missing = [it for it in files - {"examples/apr.txt"} if not (documents / it).exists()]
-    judge("and files that are there", missing == [] and "examples/flight.toml" in files, missing)
+    judge("and files that are there", missing == [] and "examples/feeds.toml" in files, missing)
     programs = set(re.findall(r"(?<!\w)/usr/(?:lib|libexec|share)/[\w./-]*\w", whole))
     missing = [it for it in programs if not (unpacked / it[1:]).exists()]
     judge("also where paths are whole", missing == [] and programs, missing)

@@ -142,7 +142,7 @@ def test_both_readers_take_or_refuse_a_packet_alike(work: Path, name: str) -> No
     if wanted.startswith("read "):
         judge(f"list: {wanted}", (done.returncode, done.stderr) == (1, f"{wanted}\n"), done)
         kept, told = salvaged(data)
-        judge(f"salvage: {wanted}", f"after {wanted}".rsplit(" ", 1)[0] in told and kept == b"", told)
+        judge(f"bpfrec salvage: {wanted}", f"after {wanted}".rsplit(" ", 1)[0] in told and kept == b"", told)
         return
     lines = done.stdout.splitlines()
     judge(f"list: {wanted}", len(lines) == 2 and lines[0].split(" ", 7)[7] == wanted, done)

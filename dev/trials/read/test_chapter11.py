@@ -11,12 +11,11 @@ import pytest
 from drawn_recording import DrawnRecording, drawn_insns
 from frames import FRAMES, body_of, packet_of
 from reading import SAMPLES
-from support import ROOT, judge, judge_quietly, outcome
+from support import CHECK_CH10, judge, judge_quietly, outcome
 from whole_file import Origin, Setup
 from whole_file_trials import chapter11, judge_file
 
 WANTED = {"bin/bpfrec": "make build"}
-CHECK = ROOT / "host/bin/check_ch10"
 SECOND, DAY = 10_000_000, 86_400
 LAST_COUNTER = 2**48 - 1
 # 2025-12-01 12:00:00.250000123, and the sum of the file of the recording of 248 bytes with this origin.
@@ -26,7 +25,7 @@ NOW = Setup((Origin(0, ORIGIN),))
 
 
 def checked(work: Path) -> tuple[int, str]:
-    done = outcome(CHECK, work / "flight.ch10", seconds=300)
+    done = outcome(CHECK_CH10, work / "flight.ch10", seconds=300)
     return done.returncode, done.stdout + done.stderr
 
 
@@ -70,6 +69,23 @@ def test_the_least_recording(work: Path) -> None:
     judge("what is printed", done.stdout == "times 1 packets 1 records 3 index 2 bytes 1192\n", done)
     data = (work / "flight.ch10").read_bytes()
     judge("its bytes", len(data) == 1_192 and hashlib.sha256(data).hexdigest() == ONE_SUM)
+
+
+IN_TAI = 'counter = 0, origin = "1764590437.250000123"'
+
+
+@pytest.mark.parametrize(
+    "setup",
+    [
+        f'origins = [{{ {IN_TAI}, scale = "TAI", tai_offset = 37 }}]',
+        f'scale = "TAI"\ntai_offset = 37\norigins = [{{ {IN_TAI}, scale = "unknown" }}]',
+    ],
+)
+def test_an_origin_in_tai_gives_the_same_file(work: Path, setup: str) -> None:
+    done = chapter11(work, SAMPLES[1].read_bytes(), f"{setup}\n")
+    judge(
+        "37 seconds are taken from it", hashlib.sha256((work / "flight.ch10").read_bytes()).hexdigest() == ONE_SUM, done
+    )
 
 
 @pytest.mark.parametrize("seed", range(16))

@@ -8,7 +8,7 @@ import pytest
 from frames import COMPUTER
 from reading import recording_of_three
 from rows import expected_rows, flight_of, printed, rows_of
-from support import BPFREC, CHECK_SUMS, SALVAGE, judge, judge_quietly, outcome, run
+from support import BPFREC, SALVAGE, judge, judge_quietly, outcome, run, sums
 from whole_file import packets_in
 from whole_file_trials import chapter11
 
@@ -91,8 +91,8 @@ def test_salvage_finds_it_whole(work: Path, pair: tuple[Path, Path]) -> None:
     judge("it leaves one out", left == len(list(packets_in(bytes(data)))) - 1, done)
 
 
-def test_check_sums_finds_it_whole(pair: tuple[Path, Path]) -> None:
-    done = outcome(CHECK_SUMS, pair[1])
+def test_check_finds_it_whole(pair: tuple[Path, Path]) -> None:
+    done = sums(pair[1])
     judge("all sums are right", done.returncode == 0, done)
 
 

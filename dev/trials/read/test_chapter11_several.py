@@ -1,4 +1,4 @@
-"""Tries host/bin/chapter11 on recordings of several recorders: one file, with a channel for each of theirs."""
+"""Tries bpfrec export on recordings of several recorders: one file, with a channel for each of theirs."""
 
 from __future__ import annotations
 
@@ -15,11 +15,11 @@ from disks import memory_disk
 from frames import FRAMES, HEADER_LENGTH, body_of, numbered, packet_of, program_packet, records, with_check_sequence
 from recorder import extracted
 from several_recorders import facts_by, recording_at
-from support import BPFREC, CHECK_SUMS, ROOT, judge, judge_quietly, outcome
+from support import BPFREC, EXPORT, judge, judge_quietly, outcome, sums
 from whole_file_parts import recorded
 
 WANTED = {"bin/bpfrec": "make build"}
-CHAPTER11 = ROOT / "host/bin/chapter11"
+CHAPTER11 = (EXPORT, "--as=chapter11")
 # A second, in ticks of the counter, and the moment of counter 0 of most recorders.
 SECOND, MOMENT = 10_000_000, 1_764_590_400
 
@@ -37,7 +37,7 @@ def origin(ticks: int = 0) -> list[tuple]:
 
 
 def made(work: Path, *words: object) -> subprocess.CompletedProcess:
-    return outcome(CHAPTER11, *words, cwd=work, seconds=120)
+    return outcome(*CHAPTER11, *words, cwd=work, seconds=120)
 
 
 def frames_in(recording: Path, channel: int) -> list[Taken]:
@@ -49,7 +49,7 @@ def judge_whole(out: Path, count: int) -> None:
     """Judges a file by the audit, and by the check of whole files that shares no code with the program."""
     audit = outcome(BPFREC, "audit", out)
     judge_quietly("the audit says yes", audit.returncode == 0 and audit.stdout.count("channel ") == count, audit)
-    done = outcome(CHECK_SUMS, out)
+    done = sums(out)
     judge_quietly("it is a whole file", done.returncode == 0, done)
 
 
@@ -146,7 +146,7 @@ def test_drawn_recordings_become_one_file(work: Path) -> None:
             Path(f"{path}.json").write_text(json.dumps(facts))
         done = made(work, "--force", "0.ch11", "1.ch11", "all.ch10")
         judge_quietly("it is made", done.returncode == 0 and "channel 3 of 1.ch11 is 5\n" in done.stdout, done)
-        judge_quietly("it is a whole file", outcome(CHECK_SUMS, work / "all.ch10").returncode == 0)
+        judge_quietly("it is a whole file", sums(work / "all.ch10").returncode == 0)
         for at, channel, new in ((0, 1, 1), (0, 3, 3), (1, 2, 2), (1, 3, 5), (1, 4, 4)):
             moved = SECOND * turn * at
             wanted = [it._replace(counter=it.counter + moved) for it in frames_in(work / f"{at}.ch11", channel)]
@@ -160,7 +160,7 @@ def test_drawn_recordings_become_one_file(work: Path) -> None:
 def refused(work: Path, status: int, line: str, *words: object) -> None:
     before = sorted(os.listdir(work))
     done = made(work, *words, "all.ch10")
-    judge(line, (done.returncode, done.stdout, done.stderr) == (status, "", f"chapter11: {line}\n"), done)
+    judge(line, (done.returncode, done.stdout, done.stderr) == (status, "", f"bpfrec export: {line}\n"), done)
     judge("nothing is made", sorted(os.listdir(work)) == before)
 
 
@@ -172,13 +172,14 @@ def test_what_can_not_be_one_file_is_refused(work: Path, two: list[Path]) -> Non
     Path(f"{work}/again.ch11.json").write_text(Path(f"{one}.json").read_text())
     refused(work, 1, "one.ch11: it is given twice", "one.ch11", "one.ch11")
     refused(work, 1, "again.ch11: it is given twice, as one.ch11 too", "one.ch11", "again.ch11")
-    whose = "one.ch11 and same.ch11 are both of eth0 of tap1: each gets a file of its own"
+    way_out = "each gets a file of its own, and a capture takes all"
+    whose = f"one.ch11 and same.ch11 are both of eth0 of tap1, as recordings of a run are: {way_out}"
     refused(work, 1, whose, "one.ch11", "same.ch11")
     refused(work, 3, "plain.ch11.json: No such file or directory", "one.ch11", "plain.ch11")
     several = "--facts and --origin are for one recording: several have their facts beside them"
     refused(work, 2, several, "--origin", "0", "one.ch11", "two.ch11")
     refused(work, 2, several, "--facts", "one.ch11.json", "one.ch11", "two.ch11")
-    refused(work, 2, "-: it is standard input, and chapter11 reads a file twice", "one.ch11", "-")
+    refused(work, 2, "-: it is standard input, and a whole file is made by reading twice", "one.ch11", "-")
     other.write_bytes(other.read_bytes()[:-10])
     refused(work, 1, f"two.ch11: read 1 Truncated {len(other.read_bytes()) - 46}", *ORDERED)
     other.write_bytes(one.read_bytes()[:-4] + b"\1\2\3\4")
@@ -192,7 +193,7 @@ def test_an_out_that_is_an_input_of_several_is_refused(work: Path, two: list[Pat
     for path in (*two, *(Path(f"{it}.json") for it in two)):
         before = path.read_bytes()
         done = made(work, "--force", *ORDERED, path.name)
-        line = f"chapter11: {path.name}: it is {path.name} itself\n"
+        line = f"bpfrec export: {path.name}: it is {path.name} itself\n"
         judge(path.name, (done.returncode, done.stderr) == (3, line) and path.read_bytes() == before, done)
 
 

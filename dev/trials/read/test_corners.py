@@ -13,7 +13,7 @@ from exports import wanted_of
 from frames import Record, records
 from reading import facts_of
 from rows import printed, rows_of
-from support import BPFREC, CAPTURE, INFO, PCAPNG, judge, judge_quietly, outcome, run
+from support import BPFREC, CAPTURE, EXPORT, INFO, judge, judge_quietly, outcome, run
 
 WANTED = {"bin/bpfrec": "make build", "bin/capture": "make build", "tshark": "tshark"}
 # The times of a capture: nanoseconds of 64 bits since 1970.
@@ -45,7 +45,7 @@ def by_export(work: Path, recording: Path) -> list[Record]:
 
 
 def by_pcapng(work: Path, recording: Path) -> list[Record]:
-    run(PCAPNG, "--force", work / "out.pcapng", recording)
+    run(EXPORT, "--force", recording, work / "out.pcapng")
     return of_capture(work)
 
 
@@ -114,7 +114,7 @@ def times_of_plugin(work: Path, recording: Path) -> list[int]:
 
 def judge_pcapng(work: Path, recording: Path, moments: list[int]) -> None:
     """A capture has the times that fit, and the first one that doesn't is refused."""
-    done = outcome(PCAPNG, "--force", work / "out.pcapng", recording)
+    done = outcome(EXPORT, "--force", recording, work / "out.pcapng")
     if all(0 <= it < MOST_UNITS for it in moments):
         judge_quietly("it is made", done.returncode == 0, done)
         wanted = sorted(it // 100 % 2**48 for it in moments)

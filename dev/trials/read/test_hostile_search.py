@@ -1,4 +1,4 @@
-"""Tries how long host/bin/info, host/bin/salvage and the plugin of Wireshark search in headers that all claim long
+"""Tries how long bpfrec info, bpfrec salvage and the plugin of Wireshark search in headers that all claim long
 packets."""
 
 import time

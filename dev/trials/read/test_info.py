@@ -1,4 +1,4 @@
-"""Tries host/bin/info: its numbers beside capinfos' and tshark's, its page, and what it refuses."""
+"""Tries bpfrec info: its numbers beside capinfos' and tshark's, its page, and what it refuses."""
 
 import contextlib
 import html.parser
@@ -186,7 +186,7 @@ def test_an_empty_recording_has_a_page(work: Path) -> None:
     """And a line that says so."""
     (work / "empty.ch11").write_bytes(b"")
     done = outcome(INFO, "--html", work / "page.html", work / "empty.ch11")
-    wanted = f"info: {work}/empty.ch11: it is empty: there is no packet\n"
+    wanted = f"bpfrec info: {work}/empty.ch11: it is empty: there is no packet\n"
     judge("a line says it", (done.returncode, done.stderr) == (0, wanted), done)
     judge("an empty recording has a page", (work / "page.html").read_text(encoding="utf-8"))
 

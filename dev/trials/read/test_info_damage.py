@@ -1,4 +1,4 @@
-"""Tries host/bin/info and host/bin/salvage on cut and damaged recordings: each damaged place, and what is kept."""
+"""Tries bpfrec info and bpfrec salvage on cut and damaged recordings: each damaged place, and what is kept."""
 
 import errno
 import json
@@ -211,7 +211,7 @@ def test_what_salvage_cannot_read_is_refused_in_a_line(work: Path) -> None:
         ([work / "nowhere", out], 3, f"file {work}/nowhere: No such file or directory\n"),
         ([work, out], 3, f"file {work}: Is a directory\n"),
         ([SAMPLES[0], "/dev/full"], 3, "file /dev/full: No space left on device\n"),
-        ([SAMPLES[0]], 2, "salvage: it takes DAMAGED and OUT: host/bin/salvage --help has its arguments\n"),
+        ([SAMPLES[0]], 2, "bpfrec salvage: it takes DAMAGED and OUT: bpfrec salvage --help has its arguments\n"),
     ]
     for words, status, told in cases:
         done = outcome(SALVAGE, *words)

@@ -1,4 +1,4 @@
-"""Tries what host/bin/info makes of the facts beside a recording: rows, times, damage, and facts that are none."""
+"""Tries what bpfrec info makes of the facts beside a recording: rows, times, damage, and facts that are none."""
 
 import contextlib
 import io

@@ -1,4 +1,4 @@
-"""Tries host/bin/info and host/bin/salvage on a recording of a gigabyte: its memory is that of one packet, and its
+"""Tries bpfrec info and bpfrec salvage on a recording of a gigabyte: its memory is that of one packet, and its
 speed."""
 
 import os

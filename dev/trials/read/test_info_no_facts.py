@@ -1,4 +1,4 @@
-"""Tries what host/bin/info tells of facts that are none, and of files of facts that can't be read."""
+"""Tries what bpfrec info tells of facts that are none, and of files of facts that can't be read."""
 
 import json
 import os
@@ -75,7 +75,7 @@ def bare(sample: Path) -> str:
 
 def judge_no_facts(sample: Path, bare: str, why: str) -> None:
     done = outcome(INFO, sample, seconds=60)
-    told = f"info: {sample}.json: no facts of a recording: {why}\n"
+    told = f"bpfrec info: {sample}.json: no facts of a recording: {why}\n"
     judge(f"facts are refused: {why}", (done.returncode, done.stdout, done.stderr) == (0, bare, told), done)
 
 
@@ -117,11 +117,13 @@ def test_wrong_facts_leave_the_status_of_the_recording(work: Path, sample: Path)
     damaged.write_bytes(sample.read_bytes()[:-1])
     (work / "cut.ch11.json").write_text("[]")
     done = outcome(INFO, damaged)
-    told = f"info: {work}/cut.ch11.json: no facts of a recording: facts isn't 1\n"
+    told = f"bpfrec info: {work}/cut.ch11.json: no facts of a recording: facts isn't 1\n"
     judge("the status stays that of the recording", (done.returncode, done.stderr) == (1, told), done)
 
 
 def test_an_empty_file_is_said_to_be_empty(work: Path) -> None:
     (work / "empty.ch11").write_bytes(b"")
     done = outcome(INFO, "empty.ch11", cwd=work)
-    judge("a line says so", "info: empty.ch11: it is empty: there is no packet" in done.stderr.splitlines(), done)
+    judge(
+        "a line says so", "bpfrec info: empty.ch11: it is empty: there is no packet" in done.stderr.splitlines(), done
+    )

@@ -1,4 +1,4 @@
-"""Tries every number that host/bin/info prints, as text, as JSON and on its page, on recordings that were drawn."""
+"""Tries every number that bpfrec info prints, as text, as JSON and on its page, on recordings that were drawn."""
 
 from __future__ import annotations
 

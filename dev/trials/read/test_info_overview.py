@@ -1,4 +1,4 @@
-"""Tries what stands ahead in host/bin/info: a line for each channel, and damaged places by channel and time."""
+"""Tries what stands ahead in bpfrec info: a line for each channel, and damaged places by channel and time."""
 
 import json
 import subprocess
@@ -24,7 +24,7 @@ LINES = [
 def recording(work: Path) -> Path:
     """A recording of the samples of examples/, whose second channel has a filter that drops all."""
     (work / "none.txt").write_text(DROP_ALL)
-    settings = (ROOT / "examples/flight.toml").read_text().replace("examples/arp.txt", f"{work}/none.txt")
+    settings = (ROOT / "examples/feeds.toml").read_text().replace("examples/arp.txt", f"{work}/none.txt")
     (work / "flight.toml").write_text(settings)
     run(BPFREC, "record", work / "flight.toml", work / "flight.ch11", cwd=ROOT, stdin=subprocess.DEVNULL)
     return work / "flight.ch11"

@@ -1,4 +1,4 @@
-"""Tries how host/bin/info and host/bin/salvage go on behind damage: at the input's end, and where headers stand
+"""Tries how bpfrec info and bpfrec salvage go on behind damage: at the input's end, and where headers stand
 close."""
 
 from __future__ import annotations

@@ -1,4 +1,4 @@
-"""Tries what host/bin/info makes of the spans that facts have."""
+"""Tries what bpfrec info makes of the spans that facts have."""
 
 import json
 from pathlib import Path

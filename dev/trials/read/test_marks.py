@@ -1,4 +1,4 @@
-"""Tries the marks of facts in what reads recordings: host/bin/info, and the captures of pcapng and follow, by tshark."""
+"""Tries the marks of facts in what reads recordings: bpfrec info, and the captures of pcapng and follow, by tshark."""
 
 from __future__ import annotations
 
@@ -13,10 +13,10 @@ import pytest
 from bpfrec_host.formats.marks import marks_in
 from expected_facts import TAI_37, UNKNOWN_SCALE, facts_of_run
 from frames import FRAMES, body_of, end_packet, numbered, packet_of, program_packet, with_check_sequence
-from support import INFO, PCAPNG, ROOT, judge, outcome, run
+from support import EXPORT, INFO, TOOLS, judge, outcome, run
 
 WANTED = {"bin/bpfrec": "make build", "tshark": "tshark", "capinfos": "wireshark-common"}
-FOLLOW = ROOT / "host/bin/follow"
+FOLLOW = TOOLS / "follow"
 ORIGIN = [("1764590400.000000000", 0, None, "UTC")]
 SECOND, SECTION = 10**7, 0x0A0D0D0A
 
@@ -75,7 +75,7 @@ def section_marks(capture: Path, section: int) -> list[str]:
 
 
 def by_pcapng(work: Path, *paths: object) -> Path:
-    run(PCAPNG, "--force", work / "o.pcapng", *paths)
+    run(EXPORT, "--force", *paths, work / "o.pcapng")
     return work / "o.pcapng"
 
 
@@ -105,7 +105,7 @@ def test_a_mark_is_a_comment_of_the_next_frame_and_of_a_section(work: Path, made
     else:
         judge("one that no frame follows is at the end", section_marks(capture, 1) == [last])
         told = (work / "errors").read_text()
-        judge("and said", told == f"follow: no frame follows {last}\nframes 3 skipped 0\n", told)
+        judge("and said", told == f"bpfrec follow: no frame follows {last}\nframes 3 skipped 0\n", told)
     judge("there are three frames", "Number of packets:   3" in run("capinfos", "-M", capture))
 
 
@@ -129,7 +129,7 @@ def test_marks_of_a_slice_are_those_of_its_time(work: Path) -> None:
     path = recording(
         work / "a.ch11", {1: [SECOND, 2 * SECOND, 3 * SECOND]}, [(it * SECOND, str(it)) for it in range(5)]
     )
-    run(PCAPNG, "--from", "2", "--to", "3", work / "o.pcapng", path)
+    run(EXPORT, "--from", "2", "--to", "3", path, work / "o.pcapng")
     judge("those alone", [it[1][-1] for it in comments(work / "o.pcapng")] == ["2"])
     judge("also in the head", [it[-1] for it in section_marks(work / "o.pcapng", 0)] == ["2"])
 

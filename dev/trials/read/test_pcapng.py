@@ -1,4 +1,4 @@
-"""Tries host/bin/pcapng by programs that nobody here wrote: capinfos, editcap, mergecap, reordercap, tshark and
+"""Tries bpfrec export by programs that nobody here wrote: capinfos, editcap, mergecap, reordercap, tshark and
 tcpdump."""
 
 import json
@@ -18,7 +18,7 @@ from reading import SAMPLES, SEED, recording_of_three
 from recorder import RECORDINGS, extracted
 from rows import drawn_recording, flight_of
 from seen_frames import channels_of, feeds_of, judge_whole, made, seen_in
-from support import BPFREC, CONVERT, LIBRARY, PCAPNG, judge, judge_quietly, outcome, pipe_at, run, shared_library
+from support import BPFREC, CONVERT, EXPORT, LIBRARY, judge, judge_quietly, outcome, pipe_at, run, shared_library
 
 WANTED = {
     "bin/bpfrec": "make build",
@@ -160,7 +160,7 @@ def test_interfaces_have_names_counts_and_filters(work: Path) -> None:
     )
     told = run("capinfos", "-k", "-I", made(work, recording))
     judge("the name by the facts, and the host", "Name = eth7" in told and "its facts, of host fc1" in told, told)
-    done = outcome(PCAPNG, "--force", work / "made.pcapng", recording, env={**os.environ, "BPFREC": "/nowhere"})
+    done = outcome(EXPORT, "--force", recording, work / "made.pcapng", env={**os.environ, "BPFREC": "/nowhere"})
     judge("without bpfrec filters are listings", b"\n1,6 0 0 1," in capture.read_bytes() and done.returncode == 0)
 
 
@@ -236,13 +236,13 @@ def test_a_damaged_place_is_told_and_what_follows_is_there(work: Path) -> None:
         data = bytearray(b"".join(whole))
         data[begin + place] ^= 1
         (work / "damaged.ch11").write_bytes(data)
-        done = outcome(PCAPNG, "--force", work / "out.pcapng", work / "damaged.ch11")
-        wanted = f"pcapng: {work}/damaged.ch11: {told} {begin}: {len(whole[2])} bytes are left out\n"
+        done = outcome(EXPORT, "--force", work / "damaged.ch11", work / "out.pcapng")
+        wanted = f"bpfrec export: {work}/damaged.ch11: {told} {begin}: {len(whole[2])} bytes are left out\n"
         judge(
             f"a wrong {name}", (done.returncode, done.stdout, done.stderr) == (1, "frames 6 skipped 0\n", wanted), done
         )
     (work / "damaged.ch11").write_bytes(b"".join(whole)[:-1])
-    done = outcome(PCAPNG, "--force", work / "out.pcapng", work / "damaged.ch11")
+    done = outcome(EXPORT, "--force", work / "damaged.ch11", work / "out.pcapng")
     judge(
         "cut", done.returncode == 1 and "read 1 Truncated" in done.stderr and done.stdout.startswith("frames 8 "), done
     )
@@ -253,7 +253,7 @@ def test_each_damaged_byte_ends_with_a_line_and_a_status(work: Path) -> None:
     data = SAMPLES[1].read_bytes()
     for at in range(0, len(data), 5):
         (work / "damaged.ch11").write_bytes(data[:at] + bytes([data[at] ^ 0xFF]) + data[at + 1 :])
-        done = outcome(PCAPNG, "--force", work / "out.pcapng", work / "damaged.ch11")
+        done = outcome(EXPORT, "--force", work / "damaged.ch11", work / "out.pcapng")
         judge_quietly(f"byte {at}", done.returncode in (0, 1) and "Traceback" not in done.stderr, done)
     judge("each fifth byte", outcome("capinfos", work / "out.pcapng").returncode == 0)
 
@@ -264,22 +264,22 @@ def test_each_damaged_byte_ends_with_a_line_and_a_status(work: Path) -> None:
 def test_outputs_may_be_streams_and_pipes_and_none_is_overwritten(work: Path) -> None:
     recording, out = work / "x.ch11", work / "out.pcapng"
     shutil.copy(flight_of(work), recording)
-    done = subprocess.run([PCAPNG, "-", recording], capture_output=True, check=False)
+    done = subprocess.run([EXPORT, recording, "-"], capture_output=True, check=False)
     judge("standard output", done.returncode == 0 and done.stderr == b"frames 14 skipped 0\n", done.stderr)
     pipe, reader = pipe_at(work, "pipe"), None
     reader = subprocess.Popen(["cat", pipe], stdout=subprocess.PIPE)
-    run(PCAPNG, pipe, recording)
+    run(EXPORT, "--as=pcapng", recording, pipe)
     judge("a pipe", reader.communicate()[0] == done.stdout)
     out.write_text("another's")
-    again = outcome(PCAPNG, out, recording)
+    again = outcome(EXPORT, recording, out)
     judge("an OUT that is there is refused", again.returncode == 3 and out.read_text() == "another's", again)
-    judge("and said", again.stderr == f"pcapng: {out} is there: give it another name, or --force\n", again)
-    run(PCAPNG, "--force", out, recording)
+    judge("and said", again.stderr == f"bpfrec export: {out} is there: give it another name, or --force\n", again)
+    run(EXPORT, "--force", recording, out)
     judge("--force overwrites it", out.read_bytes() == done.stdout)
     link = work / "link"
     os.link(recording, link)
     for taken in (recording, link):
-        refused = outcome(PCAPNG, "--force", taken, recording)
+        refused = outcome(EXPORT, "--as=pcapng", "--force", recording, taken)
         judge("never the recording itself", refused.returncode == 3 and "itself" in refused.stderr, refused)
     judge("which is as it was", run(BPFREC, "audit", recording).endswith("yes other 0\n"))
 
@@ -293,24 +293,24 @@ def test_what_cannot_be_made_is_refused(work: Path, three: Path) -> None:
     (work / "none.ch11.json").write_text("{}")
     os.mkfifo(work / "fifo")
     cases: list[tuple[list[object], int, str]] = [
-        ([out, work / "nowhere"], 3, f"file {work}/nowhere: No such file or directory"),
-        ([out, plain, known], 1, f"pcapng: {known} has facts beside it and {plain} has none"),
-        ([out, work / "none.ch11"], 1, f"pcapng: {work}/none.ch11.json: no facts of a recording: facts isn't 1"),
+        ([work / "nowhere", out], 3, f"file {work}/nowhere: No such file or directory"),
+        ([plain, known, out], 1, f"bpfrec export: {known} has facts beside it and {plain} has none"),
+        ([work / "none.ch11", out], 1, f"bpfrec export: {work}/none.ch11.json: no facts of a recording: facts isn't 1"),
         (
-            ["--from", "2025-12-01T12:00:00Z", out, plain],
+            ["--from", "2025-12-01T12:00:00Z", plain, out],
             1,
             "no facts beside it, so times are seconds since counter 0, as 12.5",
         ),
-        (["--from", "noon", out, plain], 2, "noon is no time, as 12.5, 23:36:10 or 2025-12-01T12:00:00.25Z"),
-        (["--channel", "7", out, plain], 1, f"pcapng: {plain}: no channel 7"),
-        (["--channel", "70000", out, plain], 2, "70000 is no channel ID"),
-        ([out, work / "fifo"], 1, f"pcapng: {work}/fifo: it is no regular file, of which parts could be read"),
+        (["--from", "noon", plain, out], 2, "noon is no time, as 12.5, 23:36:10 or 2025-12-01T12:00:00.25Z"),
+        (["--channel", "7", plain, out], 1, f"bpfrec export: {plain}: no channel 7"),
+        (["--channel", "70000", plain, out], 2, "70000 is no channel ID"),
+        ([work / "fifo", out], 1, f"bpfrec export: {work}/fifo: it is no regular file, of which parts could be read"),
         ([out], 2, "the following arguments are required"),
-        (["/dev/full", plain], 3, "file /dev/full: No space left on device"),
-        ([work / "no/where", plain], 3, "No such file or directory"),
+        (["--as=pcapng", plain, "/dev/full"], 3, "file /dev/full: No space left on device"),
+        (["--as=pcapng", plain, work / "no/where"], 3, "No such file or directory"),
     ]
     for words, status, told in cases:
-        done = outcome(PCAPNG, *words)
+        done = outcome(EXPORT, *words)
         judge(
             f"refused: {told}",
             done.returncode == status and told in done.stderr and "Traceback" not in done.stderr,
@@ -324,10 +324,10 @@ def test_a_time_before_1970_and_a_full_standard_output_are_refused(work: Path) -
     for recording in (plain, known):
         shutil.copy(SAMPLES[1], recording)
     (work / "known.ch11.json").write_text(json.dumps(facts_of_run(BEFORE_1970[:1])))
-    done = outcome(PCAPNG, "--force", out, known)
+    done = outcome(EXPORT, "--force", known, out)
     judge("a time before 1970", done.returncode == 1 and "is before the times of a capture" in done.stderr, done)
     with open("/dev/full", "w") as full:
-        done = outcome(PCAPNG, "--force", out, plain, stdout=full, stderr=subprocess.PIPE)
+        done = outcome(EXPORT, "--force", plain, out, stdout=full, stderr=subprocess.PIPE)
     judge(
         "standard output that is full", (done.returncode, done.stderr) == (3, "file -: No space left on device\n"), done
     )
@@ -337,7 +337,7 @@ def test_out_and_its_folder_are_forced_before_the_answer(work: Path) -> None:
     """A new OUT and its folder are on their disk before the answer; where that fails there is none."""
     library = shared_library(LIBRARY / "told_fsync.c", work / "fsync.so")
     env = {**os.environ, "LD_PRELOAD": str(library)}
-    done = outcome("python3", PCAPNG, work / "a.pcapng", SAMPLES[1], env=env)
+    done = outcome("python3", EXPORT, SAMPLES[1], work / "a.pcapng", env=env)
     judge("forced, then answered", done.stdout == "fsync\nfsync\nframes 1 skipped 0\n", done)
-    done = outcome("python3", PCAPNG, work / "b.pcapng", SAMPLES[1], env={**env, "FSYNC_FAILS": "5"})
+    done = outcome("python3", EXPORT, SAMPLES[1], work / "b.pcapng", env={**env, "FSYNC_FAILS": "5"})
     judge("no answer where that fails", (done.returncode, done.stdout) == (3, "fsync\n"), done)

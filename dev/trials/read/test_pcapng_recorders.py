@@ -1,4 +1,4 @@
-"""Tries host/bin/pcapng on recordings of several recorders, and of many channels."""
+"""Tries bpfrec export on recordings of several recorders, and of many channels."""
 
 import resource
 from pathlib import Path
@@ -7,7 +7,7 @@ import pytest
 from frames import FRAMES, body_of, numbered, packet_of, with_check_sequence
 from seen_frames import seen_in
 from several_recorders import facts_by, recording_at
-from support import INFO, PCAPNG, judge, outcome, run
+from support import EXPORT, INFO, judge, outcome, run
 
 WANTED = {"bin/bpfrec": "make build", "tshark": "tshark", "capinfos": "wireshark-common"}
 # On a quiet machine that many channels take five seconds.
@@ -16,7 +16,7 @@ CHANNELS, PATIENCE = 65_535, 40
 
 def captured(work: Path, *recordings: Path) -> tuple[list[str], list[tuple[int, int]]]:
     """The names of a capture's interfaces, and of each frame its interface and its number."""
-    run(PCAPNG, "--force", work / "all.pcapng", *recordings)
+    run(EXPORT, "--force", *recordings, work / "all.pcapng")
     told = run("capinfos", "-k", "-I", work / "all.pcapng")
     names = [it.split(" = ")[1] for it in told.splitlines() if it.strip().startswith("Name = ")]
     numbers = [int.from_bytes(it.bytes[14:22], "big") for it in seen_in(work / "all.pcapng")]
@@ -123,7 +123,7 @@ def test_recordings_without_facts_are_of_a_recorder_each(work: Path) -> None:
 
 
 def test_help_promises_no_order_by_time(work: Path) -> None:
-    told = " ".join(run(PCAPNG, "--help").split())
+    told = " ".join(run(EXPORT, "--help").split())
     judge("it says where times step back", "merged by time" not in told and "times step back" in told, told)
 
 
@@ -147,7 +147,7 @@ def many(place: Path) -> Path:
 def processor_seconds(out: Path, recording: Path, count: int) -> float:
     """How many seconds of a processor a capture of so many frames takes."""
     begun = resource.getrusage(resource.RUSAGE_CHILDREN).ru_utime
-    done = outcome(PCAPNG, "--force", out, recording, seconds=PATIENCE)
+    done = outcome(EXPORT, "--as=pcapng", "--force", recording, out, seconds=PATIENCE)
     judge("all frames", (done.returncode, done.stdout) == (0, f"frames {count} skipped 0\n"), done)
     return resource.getrusage(resource.RUSAGE_CHILDREN).ru_utime - begun
 
@@ -175,7 +175,7 @@ def test_info_of_all_channels_takes_seconds(many: Path) -> None:
 def test_a_channel_may_be_named_by_its_interface(work: Path) -> None:
     one = recording_at(work / "one.ch11", [0, 20], 1, facts_by("fc1", "eth0"))
     two = recording_at(work / "two.ch11", [10, 30], 2, facts_by("fc1", "eth1"))
-    run(PCAPNG, "--channel", "eth1", work / "eth1.pcapng", one, two)
+    run(EXPORT, "--channel", "eth1", one, two, work / "eth1.pcapng")
     numbers = [int.from_bytes(it.bytes[14:22], "big") for it in seen_in(work / "eth1.pcapng")]
     judge("its frames alone", numbers == [2_000, 2_001], numbers)
 
@@ -183,13 +183,13 @@ def test_a_channel_may_be_named_by_its_interface(work: Path) -> None:
 @pytest.mark.parametrize("has_facts", [False, True])
 def test_an_interface_that_is_not_known_is_refused(work: Path, has_facts: bool) -> None:
     one = recording_at(work / "one.ch11", [0], 1, facts_by("fc1", "eth0") if has_facts else None)
-    done = outcome(PCAPNG, "--channel", "eth9", work / "out.pcapng", one)
+    done = outcome(EXPORT, "--channel", "eth9", one, work / "out.pcapng")
     told = "no channel eth9" if has_facts else "no facts beside it, so --channel takes numbers, as 1"
-    judge("refused", (done.returncode, done.stderr) == (1, f"pcapng: {one}: {told}\n"), done)
+    judge("refused", (done.returncode, done.stderr) == (1, f"bpfrec export: {one}: {told}\n"), done)
 
 
 def test_a_time_of_day_is_refused_with_what_a_time_is(work: Path) -> None:
-    done = outcome(PCAPNG, "--from", "23:36", work / "out.pcapng", work / "one.ch11")
+    done = outcome(EXPORT, "--from", "23:36", work / "one.ch11", work / "out.pcapng")
     told = "23:36 is no time, as 12.5, 23:36:10 or 2025-12-01T12:00:00.25Z: seconds since counter 0, or UTC with or without its date"
     judge("refused", done.returncode == 2 and told in done.stderr, done)
 
@@ -199,8 +199,8 @@ def test_a_time_of_day_is_refused_with_what_a_time_is(work: Path) -> None:
 
 def test_a_pipe_is_read_as_standard_input(work: Path) -> None:
     one = recording_at(work / "one.ch11", [0, 20], 1)
-    run(PCAPNG, work / "wanted.pcapng", one)
-    done = outcome("sh", "-c", f"cat {one} | {PCAPNG} {work}/out.pcapng -")
+    run(EXPORT, one, work / "wanted.pcapng")
+    done = outcome("sh", "-c", f"cat {one} | {EXPORT} - {work}/out.pcapng")
     judge("it is read", (done.returncode, done.stdout) == (0, "frames 2 skipped 0\n"), done)
     judge("with the same frames", seen_in(work / "out.pcapng") == seen_in(work / "wanted.pcapng"))
 
@@ -208,5 +208,5 @@ def test_a_pipe_is_read_as_standard_input(work: Path) -> None:
 def test_standard_input_given_twice_is_refused(work: Path) -> None:
     one = recording_at(work / "one.ch11", [0], 1)
     for words in ("- -", "- /dev/stdin"):
-        done = outcome("sh", "-c", f"cat {one} | {PCAPNG} {work}/out.pcapng {words}", seconds=10)
+        done = outcome("sh", "-c", f"cat {one} | {EXPORT} {words} {work}/out.pcapng", seconds=10)
         judge("refused", done.returncode == 1 and "given twice" in done.stderr, done)

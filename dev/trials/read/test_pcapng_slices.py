@@ -1,4 +1,4 @@
-"""Tries slices and times of host/bin/pcapng, and several recordings in one capture."""
+"""Tries slices and times of bpfrec export, and several recordings in one capture."""
 
 import json
 import random
@@ -10,7 +10,7 @@ from expected_facts import TAI_37, THREE_ORIGINS, UNKNOWN_SCALE, facts_of_run, m
 from frames import FRAMES, body_of, end_packet, numbered, packet_of, program_packet, with_check_sequence
 from reading import SEED, recording_of_three
 from seen_frames import SECOND, Seen, feeds_of, judge_whole, made, seen_in
-from support import PCAPNG, judge, judge_quietly, outcome, run
+from support import EXPORT, judge, judge_quietly, outcome, run
 
 WANTED = {"bin/bpfrec": "make build", "tshark": "tshark", "capinfos": "wireshark-common"}
 SLICES = 12
@@ -100,16 +100,16 @@ def test_a_slice_by_utc_of_a_clock_that_ran_tai_has_the_frames_of_its_utc(work: 
 def test_a_scale_that_nobody_knows_is_said_and_no_utc_is_taken(work: Path) -> None:
     """Times are as the clock had them, on standard error, in the capture, and where a slice is asked for by UTC."""
     recording = frames_at(work / "odd.ch11", [20, 30], UNKNOWN_SCALE)
-    done = outcome(PCAPNG, work / "odd.pcapng", recording)
-    line = f"pcapng: {recording}: the scale of its times is unknown, and they are taken as they are\n"
+    done = outcome(EXPORT, recording, work / "odd.pcapng")
+    line = f"bpfrec export: {recording}: the scale of its times is unknown, and they are taken as they are\n"
     told = (done.returncode, done.stdout, done.stderr)
     judge("a line says so", told == (0, "frames 2 skipped 0\n", line), done)
     noon = 1_764_590_400_250_000_000
     judge("as they are", [it.moment for it in seen_in(work / "odd.pcapng")] == [noon + 2_000, noon + 3_000])
     comment = b"odd.ch11: times by its facts, of host fc1, scale unknown"
     judge("the capture says so", comment in (work / "odd.pcapng").read_bytes())
-    done = outcome(PCAPNG, "--force", "--from", utc(noon), work / "odd.pcapng", recording)
-    why = f"pcapng: {recording}: the scale of its times is unknown, so times are seconds since counter 0, as 12.5\n"
+    done = outcome(EXPORT, "--force", "--from", utc(noon), recording, work / "odd.pcapng")
+    why = f"bpfrec export: {recording}: the scale of its times is unknown, so times are seconds since counter 0, as 12.5\n"
     judge("UTC is refused", (done.returncode, done.stderr) == (1, line + why), done)
     seen = seen_in(made(work, "--from", "0.0000021", recording))
     judge("seconds are not", [it.moment for it in seen] == [noon + 3_000])
@@ -132,12 +132,12 @@ def test_a_slice_by_times_of_day_goes_over_midnight_and_over_recordings(work: Pa
         ("--from", "3.6", "--to", "00:00:03"): [45_000_000],
     }
     for words, wanted in table.items():
-        run(PCAPNG, "--force", *words, work / "both.pcapng", two, one)
+        run(EXPORT, "--force", *words, two, one, work / "both.pcapng")
         seen = [it.moment for it in seen_in(work / "both.pcapng")]
         judge_quietly(f"{words}: {seen}", seen == moments_by(origins, wanted))
     Path(f"{two}.json").unlink()
-    done = outcome(PCAPNG, "--force", "--from", "23:59:59", work / "refused.pcapng", two)
-    why = f"pcapng: {two}: no facts beside it, so times are seconds since counter 0, as 12.5\n"
+    done = outcome(EXPORT, "--force", "--from", "23:59:59", two, work / "refused.pcapng")
+    why = f"bpfrec export: {two}: no facts beside it, so times are seconds since counter 0, as 12.5\n"
     judge("without facts it is refused by its name", (done.returncode, done.stderr) == (1, why), done)
 
 
@@ -158,7 +158,7 @@ def test_of_packets_outside_a_slice_the_headers_alone_are_read(work: Path) -> No
     parts = [packet_of(1, it, at, FRAMES, at * 1_000, True) for at, it in enumerate(bodies)]
     damaged = [it if at in (199, 200) else it[:100] + bytes(4) + it[104:] for at, it in enumerate(parts)]
     path.write_bytes(program_packet(1, 0) + b"".join(damaged) + end_packet(1, 30_000))
-    done = outcome(PCAPNG, "--from", "0.02", "--to", "0.0201", work / "slice.pcapng", path)
+    done = outcome(EXPORT, "--from", "0.02", "--to", "0.0201", path, work / "slice.pcapng")
     judge(
         "a slice of one packet", (done.returncode, done.stdout, done.stderr) == (0, "frames 60 skipped 0\n", ""), done
     )
@@ -172,7 +172,7 @@ def test_several_recordings_become_one_capture(work: Path) -> None:
         body = body_of([(counter, 0, frame) for counter, frame in chosen])
         packets = [program_packet(1, 0), packet_of(1, body, 0, FRAMES, chosen[0][0], True), end_packet(1, len(chosen))]
         (work / f"{name}.ch11").write_bytes(b"".join(packets))
-    done = outcome(PCAPNG, work / "all.pcapng", work / "b.ch11", work / "a.ch11", work / "c.ch11")
+    done = outcome(EXPORT, work / "b.ch11", work / "a.ch11", work / "c.ch11", work / "all.pcapng")
     judge("three recordings", (done.returncode, done.stdout) == (0, "frames 90 skipped 0\n"), done)
     moments = [it.moment for it in seen_in(work / "all.pcapng")]
     judge("by time", moments == sorted(counter * 100 for it in parts.values() for counter, _ in it))

@@ -1,4 +1,4 @@
-"""Tries the Python package `bpfrec` beside `bpfrec extract`, host/bin/pcapng, `bpfrec list` and host/bin/check_ch10, over
+"""Tries the Python package `bpfrec` beside `bpfrec extract`, bpfrec export, `bpfrec list` and the check of whole files, over
 drawn recordings: each frame, its time, its flags, programs, ends and damaged places."""
 
 from __future__ import annotations
@@ -21,7 +21,7 @@ from reading import SEED, recording_of_three
 from recorder import extracted
 from rows import flight_of
 from seen_frames import channels_of
-from support import BPFREC, PCAPNG, ROOT, judge, judge_quietly, outcome, run
+from support import BPFREC, CHECK_CH10, EXPORT, ROOT, judge, judge_quietly, outcome, run
 from whole_file import Origin, Setup, whole_file
 from whole_file_parts import recorded
 
@@ -29,7 +29,6 @@ WANTED = {"bin/bpfrec": "make build"}
 DRAWN = 8
 SECTION, INTERFACE, PACKET = 0x0A0D0D0A, 1, 6
 TICKS = 10_000_000
-CHECK_CH10 = ROOT / "host/bin/check_ch10"
 
 
 class Seen(NamedTuple):
@@ -51,7 +50,7 @@ def options_in(block: bytes, at: int) -> dict[int, bytes]:
 
 
 def frames_of(capture: bytes) -> list[Seen]:
-    """The frames of a capture of host/bin/pcapng, read block by block."""
+    """The frames of a capture of bpfrec export, read block by block."""
     found, at = [], 0
     while at < len(capture):
         kind, length = struct.unpack_from("<II", capture, at)
@@ -65,7 +64,7 @@ def frames_of(capture: bytes) -> list[Seen]:
 
 
 def captured(work: Path, *recordings: Path) -> list[Seen]:
-    done = outcome(PCAPNG, "--force", work / "made.pcapng", *recordings)
+    done = outcome(EXPORT, "--force", *recordings, work / "made.pcapng")
     judge_quietly("pcapng makes a capture", done.returncode in (0, 1) and "Traceback" not in done.stderr, done)
     return frames_of((work / "made.pcapng").read_bytes())
 
@@ -160,7 +159,7 @@ def test_times_by_drawn_facts_are_those_of_pcapng(work: Path, turn: int) -> None
     origins[0] = (origins[0][0].lstrip("-"), 0, *origins[0][2:])
     Path(f"{recording}.json").write_text(json.dumps(facts_of_run(origins)))
     count = judge_frames(work, recording, origins)
-    if outcome(PCAPNG, "--force", work / "made.pcapng", recording).returncode == 0:
+    if outcome(EXPORT, "--force", recording, work / "made.pcapng").returncode == 0:
         judge_capture(work, recording)
     judge(f"{count} frames", count >= 0)
 

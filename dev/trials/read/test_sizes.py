@@ -12,10 +12,9 @@ from typing import NamedTuple
 import pytest
 from exports import wanted_of
 from frames import body_of, end_packet, packet_of, program_packet, records
-from support import BPFREC, CHECK_SUMS, INFO, PCAPNG, ROOT, SALVAGE, judge, outcome, run
+from support import BPFREC, CHECK_CH10, EXPORT, INFO, SALVAGE, judge, outcome, run, sums
 
 WANTED = {"bin/bpfrec": "make build"}
-CHECK_CH10 = ROOT / "host/bin/check_ch10"
 PATIENCE = 240
 FRAMES, ANOTHER = 0x68, 0x09
 CHANNELS = [*range(1, 65_536, 950), 65_535]
@@ -92,7 +91,7 @@ def test_export_and_pcapng_show_all(made: Made, work: Path) -> None:
     wanted = wanted_of(made.mixed.read_bytes()).bytes
     found = (work / "all.pcapng").read_bytes()
     judge("export", hashlib.sha256(found).digest() == hashlib.sha256(wanted).digest(), len(found))
-    told = run(PCAPNG, work / "by_tool.pcapng", made.mixed, seconds=PATIENCE)
+    told = run(EXPORT, made.mixed, work / "by_tool.pcapng", seconds=PATIENCE)
     judge("pcapng", told == f"frames {sum(made.frames.values())} skipped 0\n", told)
 
 
@@ -117,6 +116,6 @@ def test_chapter11_writes_all_or_names_the_first_other(made: Made, work: Path) -
 def test_the_tools_count_all(made: Made) -> None:
     known = json.loads(run(INFO, "--json", made.mixed, seconds=PATIENCE))["channels"]
     judge("info", {int(name): it["frames"] for name, it in known.items()} == made.frames, known.keys())
-    told = run(CHECK_SUMS, made.mixed, seconds=PATIENCE)
+    told = sums(made.mixed, seconds=PATIENCE).stdout
     packets = packets_in(made) + OTHERS
     judge("its sums", told == f"packets {packets} data checksums {packets} without 0 wrong 0\n", told)

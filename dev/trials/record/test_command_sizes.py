@@ -9,17 +9,18 @@ from frames import counted_feed, end_packet, feed_of, frames_packet, program_pac
 from recorder import ONE_FRAME, begin, extracted, record, write_settings
 from support import (
     BPFREC,
-    CHECK_SUMS,
+    CHECK,
+    EXPORT,
     INFO,
     KEEPS_ALL,
     MEBIBYTE,
-    PCAPNG,
     PREFLIGHT,
     SALVAGE,
     judge,
     outcome,
     present,
     run,
+    sums,
     wait_for,
 )
 
@@ -29,7 +30,7 @@ LISTING_BYTES, TEXT_BYTES, LINES_BYTES = MEBIBYTE, 64 * MEBIBYTE, 16 * MEBIBYTE
 # Between the powers of two that other trials have.
 INSNS = (300, 3_000)
 FRAME = ONE_FRAME[9:]
-READERS = ("list", "audit", "extract", "upgrade", "salvage", "check_sums", "info", "pcapng")
+READERS = ("list", "audit", "extract", "upgrade", "salvage", "check", "info", "pcapng")
 PATIENCE = 120
 
 
@@ -183,9 +184,9 @@ def test_readers_of_recordings_take_programs_of_each_length(work: Path, two_vers
         "extract": ([BPFREC, "extract", two_versions, 1, new], "frames 2 passed 0\n", ONE_FRAME * 2),
         "upgrade": ([BPFREC, "upgrade", two_versions, new], "upgraded 0 copied 5\n", old),
         "salvage": ([SALVAGE, two_versions, new], "lost 0 bytes at 0 places\n", old),
-        "check_sums": ([CHECK_SUMS, two_versions], "checksums 5 without 0 wrong 0\n", None),
+        "check": ([CHECK, "--no-audit", two_versions], "checksums 5 without 0 wrong 0\nyes\n", None),
         "info": ([INFO, two_versions], "version 0 to 1             from frame 0, counter 32\n", None),
-        "pcapng": ([PCAPNG, new, two_versions], "frames 2 skipped 0\n", None),
+        "pcapng": ([EXPORT, "--as=pcapng", two_versions, new], "frames 2 skipped 0\n", None),
     }
     words, wanted, made = cases[tool]
     told = run(*words)
@@ -226,7 +227,7 @@ def test_extract_and_upgrade_take_many_packets(work: Path, count: int) -> None:
             judge(f"extract by {how}", told == f"frames {count} passed 0\n" and feed.read_bytes() == wanted, told)
             told = run(BPFREC, "upgrade", word, new, stdin=given_again, seconds=PATIENCE)
         judge(f"upgrade by {how}", told == f"upgraded {count + 2} copied 0\n", told)
-        told = run(CHECK_SUMS, new)
+        told = sums(new).stdout
         judge("with right sums", told == f"packets {count + 2} data checksums {count + 2} without 0 wrong 0\n", told)
         judge("and the same frames", extracted(new, 1, feed) == wanted)
 

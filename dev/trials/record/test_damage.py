@@ -12,11 +12,10 @@ from pathlib import Path
 
 import pytest
 from recorder import MANY, extracted, make_feed, record, write_settings
-from support import BPFREC, ROOT, judge, judge_quietly, outcome, present, run, wait_for
+from support import BPFREC, judge, judge_quietly, outcome, present, run, sums, wait_for
 
 WANTED = {"bin/bpfrec": "make build"}
 pytestmark = pytest.mark.timed
-CHECK_SUMS = ROOT / "host/bin/check_sums"
 KILLS, PARTS = 100, 10
 CHANGES = 100
 
@@ -92,14 +91,14 @@ def test_each_sum_is_right_and_finds_each_changed_byte(work: Path, feed: Path) -
     whole, changed = work / "sums.ch11", work / "sums_changed.ch11"
     judge("a hundred thousand frames", record(write_settings(work, [feed], ["half"]), whole).returncode == 0)
     count = run(BPFREC, "list", whole).splitlines()[-1].split()[1]
-    told = outcome(CHECK_SUMS, whole)
+    told = sums(whole)
     wanted = f"packets {count} data checksums {count} without 0 wrong 0\n"
     judge(f"all sums of its {count} packets are right", (told.returncode, told.stdout) == (0, wanted), told)
     recording, draw = whole.read_bytes(), random.Random(8)
     for _ in range(CHANGES):
         at, value = draw.randrange(len(recording)), draw.randrange(1, 256)
         changed.write_bytes(recording[:at] + bytes([recording[at] ^ value]) + recording[at + 1 :])
-        told = outcome(CHECK_SUMS, changed)
+        told = sums(changed)
         judge_quietly(f"byte {at} is changed by {value}", told.returncode == 1 and not told.stderr, told)
     judge(f"and each of {CHANGES} changed bytes is found", True)
 

@@ -12,7 +12,7 @@ import pytest
 from disks import memory_disk
 from frames import counted_feed
 from recorder import RECORD_LENGTH, RECORDINGS, begin, make_feed, record, write_settings
-from support import BPFREC, CONVERT, PCAPNG, SALVAGE, judge, judge_quietly, outcome, present, run
+from support import BPFREC, CONVERT, EXPORT, SALVAGE, judge, judge_quietly, outcome, present, run
 
 WANTED = {"bin/bpfrec": "make build", "cc": "gcc"}
 SAMPLE = RECORDINGS / "two_versions.ch11"
@@ -60,7 +60,7 @@ def commands(work: Path) -> dict[str, Command]:
         "upgrade_of_input": Command([BPFREC, "upgrade", "-", OUT], SAMPLE),
         "chapter11": Command([BPFREC, "chapter11", SAMPLE, work / "setup.toml", OUT]),
         "salvage": Command([SALVAGE, "--force", SAMPLE, OUT]),
-        "pcapng": Command([PCAPNG, "--force", OUT, SAMPLE]),
+        "pcapng": Command([EXPORT, "--as=pcapng", "--force", SAMPLE, OUT]),
         "from-pcap": Command([CONVERT, "from-pcap", "--force", work / "own.pcap", OUT]),
         "to-pcap": Command([CONVERT, "to-pcap", "--force", feed, OUT]),
         "make": Command([CONVERT, "make", "--force", "1", FRAMES, OUT]),

@@ -22,7 +22,7 @@ from full_size import (
     write_all,
 )
 from recorder import begin
-from support import BPFREC, CHECK_SUMS, INFO, PCAPNG, SALVAGE, judge, judge_quietly, present, run
+from support import BPFREC, EXPORT, INFO, SALVAGE, judge, judge_quietly, present, run, sums
 
 WANTED = {"bin/bpfrec": "make build"}
 
@@ -82,7 +82,7 @@ def test_at_full_size_upgrade_and_salvage_copy_each_byte(work: Path, made: Made)
     judge("copies each byte", (work / "new.ch11").read_bytes() == made.out.read_bytes())
     run(SALVAGE, made.out, work / "saved.ch11", seconds=PATIENCE)
     judge("so does salvage", (work / "saved.ch11").read_bytes() == made.out.read_bytes())
-    told = run(CHECK_SUMS, made.out, seconds=PATIENCE)
+    told = sums(made.out, seconds=PATIENCE).stdout
     judge("its sums", told == f"packets {packets} data checksums {packets} without 0 wrong 0\n", told)
 
 
@@ -91,5 +91,5 @@ def test_at_full_size_the_tools_have_all(work: Path, made: Made) -> None:
     wanted = {str(channel): frames_in(feed) for channel, feed in made.feeds.items()}
     judge("info", {name: it["frames"] for name, it in known.items()} == wanted, known)
     judge("info has all versions", known[str(CHANGED)]["version_count"] == VERSIONS)
-    told = run(PCAPNG, work / "all.pcapng", made.out, seconds=PATIENCE)
+    told = run(EXPORT, made.out, work / "all.pcapng", seconds=PATIENCE)
     judge("pcapng", told == f"frames {sum(wanted.values())} skipped 0\n", told)

@@ -1,4 +1,4 @@
-"""Tries host/bin/convert both ways on captures that tcpdump reads and tshark judges, through pipes, and its faults."""
+"""Tries convert both ways on captures that tcpdump reads and tshark judges, through pipes, and its faults."""
 
 import datetime
 import json

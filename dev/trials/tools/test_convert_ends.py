@@ -1,4 +1,4 @@
-"""Tries host/bin/convert and `capture -r` on captures by hand at both ends of lengths and units of time, in both byte
+"""Tries convert and `capture -r` on captures by hand at both ends of lengths and units of time, in both byte
 orders, and through pipes that are slow at either end. dev/trials/capture/test_sanitized.py runs this under the address
 sanitizer too."""
 

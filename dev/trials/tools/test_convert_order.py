@@ -1,4 +1,4 @@
-"""Tries host/bin/convert and `capture -r` on captures whose first frame isn't the earliest, and on those of which nothing
+"""Tries convert and `capture -r` on captures whose first frame isn't the earliest, and on those of which nothing
 can be taken."""
 
 from __future__ import annotations

@@ -1,4 +1,4 @@
-"""Tries host/bin/convert on pcapng files, by hand and of editcap and mergecap, and `capture -r` beside it."""
+"""Tries convert on pcapng files, by hand and of editcap and mergecap, and `capture -r` beside it."""
 
 import random
 import shutil
@@ -134,7 +134,7 @@ def test_micro_and_nanoseconds_in_one_file_are_read(work: Path) -> None:
 
 
 def outcomes(capture: Path, work: Path, words: list) -> list[tuple]:
-    """What host/bin/convert and `capture -r` make of a file: the feed, the counts and the fault."""
+    """What convert and `capture -r` make of a file: the feed, the counts and the fault."""
     feed, other = work / "feed.feed", work / "capture.feed"
     for out in (feed, other):
         out.unlink(missing_ok=True)

@@ -13,71 +13,70 @@ from typing import Any
 
 import pytest
 from frames import body_of, packet_of
-from pcapng import section
 from reading import SAMPLES
 from recorder import make_feed, write_settings
 from support import (
-    CHECK_SUMS,
-    CONVERT,
+    CHECK,
+    CHECK_CH10,
+    EXPORT,
     INFO,
     LIVE,
     MEBIBYTE,
-    PCAPNG,
     PREFLIGHT,
     ROOT,
     SALVAGE,
+    TOOLS,
     judge,
     judge_quietly,
     outcome,
-    run,
     wait_for,
 )
 
 WANTED = {"bin/bpfrec": "make build"}
-CHAPTER11, CHECK_CH10, FOLLOW = (ROOT / "host/bin" / name for name in ("chapter11", "check_ch10", "follow"))
+FOLLOW = TOOLS / "follow"
 FULL, CLOSED = "No space left on device", "Bad file descriptor"
-# Those that print, and those that wait for a pipe; all but convert end at a fault of a file with status 3.
+# Those that print, and those that wait for a pipe; all end at a fault of a file with status 3.
 PRINTING = (
     "chapter11",
-    "check_sums",
+    "check",
     "check_ch10",
     "info",
     "info_json",
     "pcapng",
     "salvage",
-    "from-pcap",
-    "to-pcap",
-    "make",
-    "show",
     "preflight",
     "follow",
 )
-WAITING = ("check_sums", "check_ch10", "info", "pcapng", "salvage", "from-pcap", "to-pcap", "show")
-OF_CONVERT = ("from-pcap", "to-pcap", "make", "show")
+WAITING = ("check", "check_ch10", "info", "pcapng", "salvage")
 SECONDS = 60
 # What Python itself may say in place of MemoryError, of sources that it knows to be right; hashlib logs what it can't load.
 FAULTS_OF_PYTHON = ("SystemError: error return without exception set", "SyntaxError: ", "ERROR:root:code for hash ")
 
 
+def name_of(tool: str) -> str:
+    """How a tool calls itself in a line."""
+    verb = {
+        "info_json": "info",
+        "pcapng": "export",
+        "chapter11": "export",
+    }
+    return tool if tool == "check_ch10" else f"bpfrec {verb.get(tool, tool)}"
+
+
 def words_of(work: Path, tool: str, given: Path | None = None) -> list:
     """The words of a tool, with an input of its own or with this one."""
-    feed = make_feed(work / "own.feed", 100)
+    make_feed(work / "own.feed", 100)
     settings = write_settings(work, ["own.feed"], ["all"])
-    run(CONVERT, "to-pcap", "--force", feed, work / "own.pcap")
     recording, out = given or SAMPLES[1], work / "out"
     words: dict[str, list[object]] = {
-        "chapter11": [CHAPTER11, "--print-setup", "--origin", "0", recording],
-        "check_sums": [CHECK_SUMS, recording],
+        "chapter11": [EXPORT, "--print-setup", "--origin", "0", recording],
+        "check": [CHECK, "--no-audit", recording],
         "check_ch10": [CHECK_CH10, recording],
         "info": [INFO, recording],
         "info_json": [INFO, "--json", recording],
         # It reads regular files alone, so it is its OUT that it waits for.
-        "pcapng": [PCAPNG, "--force", given or out, SAMPLES[1]],
+        "pcapng": [EXPORT, "--as=pcapng", "--force", SAMPLES[1], given or out],
         "salvage": [SALVAGE, "--force", recording, out],
-        "from-pcap": [CONVERT, "from-pcap", "--force", given or work / "own.pcap", out],
-        "to-pcap": [CONVERT, "to-pcap", "--force", given or feed, out],
-        "make": [CONVERT, "make", "--force", "1", "100", out],
-        "show": [CONVERT, "show", given or feed],
         "preflight": [PREFLIGHT, given or settings, "--out", out],
         "follow": [FOLLOW, recording],
     }
@@ -86,7 +85,7 @@ def words_of(work: Path, tool: str, given: Path | None = None) -> list:
 
 def judge_ending(what: str, tool: str, done: subprocess.CompletedProcess, fault: str) -> None:
     """Judges a tool that could not print."""
-    wanted = (1, f"convert: -: {fault}\n") if tool in OF_CONVERT else (3, f"file -: {fault}\n")
+    wanted = (3, f"file -: {fault}\n")
     judge(f"{tool}: {what}", (done.returncode, done.stderr) == wanted, done)
 
 
@@ -123,7 +122,7 @@ def test_ctrl_c_in_preflight_waits_for_the_program(work: Path) -> None:
     wait_for("bpfrec is asked", (work / "is_asked").exists)
     os.killpg(running.pid, signal.SIGINT)
     told = running.communicate(timeout=SECONDS)[1]
-    judge("preflight: Ctrl-C", (running.returncode, told) == (130, "preflight: interrupted\n"), told)
+    judge("bpfrec preflight: Ctrl-C", (running.returncode, told) == (130, "bpfrec preflight: interrupted\n"), told)
 
 
 @pytest.mark.parametrize("tool", WAITING)
@@ -131,33 +130,29 @@ def test_ctrl_c_ends_a_tool_without_a_traceback(work: Path, tool: str) -> None:
     running, _ = begin_waiting(work, tool)
     running.send_signal(signal.SIGINT)
     printed, told = running.communicate(timeout=SECONDS)
-    name = "convert" if tool in OF_CONVERT else tool
+    name = name_of(tool)
     judge(f"{tool}: Ctrl-C", (running.returncode, told) == (130, f"{name}: interrupted\n"), (printed, told))
 
 
-def large_input(tool: str) -> bytes:
-    """An input of two mebibytes, of which each part must be held."""
+def large_input() -> bytes:
+    """A recording of two mebibytes, of which each packet must be held."""
     frames = body_of((at, 0, bytes(1_500)) for at in range(300))
-    recording = packet_of(1, frames, 0, 0x68, 0, True) * 5
-    feed = (b"\0" * 7 + (16_000).to_bytes(2, "little") + bytes(16_000)) * 130
-    # A block of a kind that nobody knows.
-    capture = section("<") + (0xBAD).to_bytes(4, "little") + (2 * MEBIBYTE).to_bytes(4, "little") + bytes(2 * MEBIBYTE)
-    return {"from-pcap": capture, "to-pcap": feed, "show": feed}.get(tool, recording)
+    return packet_of(1, frames, 0, 0x68, 0, True) * 5
 
 
-@pytest.mark.parametrize("tool", [it for it in WAITING if it not in ("check_sums", "pcapng")])
+@pytest.mark.parametrize("tool", [it for it in WAITING if it not in ("check", "pcapng")])
 def test_out_of_memory_is_said_in_a_line(work: Path, tool: str) -> None:
-    """Memory ends when the input begins. check_sums takes none for what it reads."""
+    """Memory ends when the input begins. check takes none for what it reads."""
     running, pipe = begin_waiting(work, tool)
     size = int(Path(f"/proc/{running.pid}/statm").read_text().split()[0]) * resource.getpagesize()
     resource.prlimit(running.pid, resource.RLIMIT_AS, (size + MEBIBYTE // 8, size + MEBIBYTE // 8))
     with open(pipe, "wb", buffering=0) as feed:
         try:
-            feed.write(large_input(tool))
+            feed.write(large_input())
         except BrokenPipeError:
             pass
     printed, told = running.communicate(timeout=SECONDS)
-    name = "convert" if tool in OF_CONVERT else tool
+    name = name_of(tool)
     judge(f"{tool}: no memory", (running.returncode, told) == (4, f"{name}: out of memory\n"), (printed[:200], told))
 
 
@@ -182,13 +177,11 @@ def least() -> int:
     return 1 + next(it for it in range(200, 0, -1) if not begins_in(it))
 
 
-@pytest.mark.parametrize(
-    "tool", ["chapter11", "check_sums", "follow", "info", "pcapng", "salvage", "from-pcap", "preflight", "live"]
-)
+@pytest.mark.parametrize("tool", ["chapter11", "check", "follow", "info", "pcapng", "salvage", "preflight", "live"])
 def test_a_tool_with_little_memory_works_or_says_so(work: Path, least: int, tool: str) -> None:
     """In each of some sizes of memory a tool does what it does in a larger one, or says that there is none."""
     words = [LIVE, work / "live.ch11", "no_interface"] if tool == "live" else words_of(work, tool)
-    name = "convert" if tool in OF_CONVERT else tool
+    name = name_of(tool)
     done = outcome(*words, errors="replace")
     wanted, refused = (done.returncode, done.stderr), 0
     for most in range(least + 2, least + 16, 2):

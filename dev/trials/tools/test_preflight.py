@@ -1,4 +1,4 @@
-"""Tries host/bin/preflight on a folder of wrong settings, filters, feeds and outputs.
+"""Tries bpfrec preflight on a folder of wrong settings, filters, feeds and outputs.
 
 Each case has the lines that preflight must say, written by hand.
 """
@@ -13,10 +13,10 @@ from pathlib import Path
 import pytest
 from disks import memory_disk
 from preflight_cases import ALL_CASES, FILES, FORBIDDEN_CASES, GOOD, HEAD, SECOND, Case
-from support import BPFREC, LIVE, MEBIBYTE, ROOT, judge, outcome, present
+from support import BPFREC, LIVE, MEBIBYTE, TOOLS, judge, outcome, present
 
 WANTED = {"bin/bpfrec": "make build"}
-PREFLIGHT = ROOT / "host/bin/preflight"
+PREFLIGHT = TOOLS / "preflight"
 # 64 channels of 4,099 buffers of 524,284 bytes.
 MOST_BUFFERS = 137_538_567_424
 # What preflight and live may take of a processor for settings, with the recorder that reads them too.
@@ -240,7 +240,7 @@ def test_settings_of_any_text_are_judged_in_seconds_as_record_judges_them(folder
 
 
 def test_arguments_are_judged(folder: Path) -> None:
-    usage = "usage: host/bin/preflight SETTINGS [--out OUT] [--capture FEED]\n"
+    usage = "usage: bpfrec preflight SETTINGS [--out OUT] [--capture FEED]\n"
     calls: list[list[str]] = [[], ["s.toml", "more"], ["s.toml", "--out"], ["s.toml", "--verbose"]]
     for words in calls:
         done = preflight(folder, *words)
@@ -250,13 +250,13 @@ def test_arguments_are_judged(folder: Path) -> None:
         judge(f"help by {word}", done.returncode == 0 and usage in done.stdout and not done.stderr)
     (folder / "s.toml").write_text(GOOD.replace("arp.txt", "\\x61rp.txt"))
     done = preflight(folder, "s.toml")
-    not_read = "preflight: s.toml:4: column <n>: bpfrec reads this, and Python's tomllib doesn't: <text>"
+    not_read = "bpfrec preflight: s.toml:4: column <n>: bpfrec reads this, and Python's tomllib doesn't: <text>"
     is_told = done.returncode == 2 and is_said(done.stderr.rstrip(), not_read)
     judge("TOML 1.1 is judged, or said not to be", done.returncode == 0 or is_told)
     done = preflight(folder, "live.feed")
     judge(
         "settings are a pipe",
-        (done.returncode, done.stderr) == (2, "preflight: live.feed is a pipe and was not opened\n"),
+        (done.returncode, done.stderr) == (2, "bpfrec preflight: live.feed is a pipe and was not opened\n"),
     )
     done = preflight(folder, "s.toml", BPFREC="/no/bpfrec")
-    judge("the program is missing", (done.returncode, done.stderr) == (2, "preflight: /no/bpfrec is missing\n"))
+    judge("the program is missing", (done.returncode, done.stderr) == (2, "bpfrec preflight: /no/bpfrec is missing\n"))

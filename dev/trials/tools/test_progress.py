@@ -14,8 +14,7 @@ from typing import Any
 import pytest
 from bpfrec_host import progress
 from frames import FRAMES, body_of, end_packet, numbered, packet_of, program_packet, with_check_sequence
-from recorder import extracted
-from support import CONVERT, INFO, PCAPNG, ROOT, SALVAGE, SECONDS, judge, outcome, pipe_at, present
+from support import EXPORT, INFO, ROOT, SALVAGE, SECONDS, judge, outcome, pipe_at, present
 
 WANTED = {"bin/bpfrec": "make build"}
 # Runs a tool whose first line comes at once.
@@ -62,19 +61,14 @@ def recording(place: Path) -> Path:
 
 def words_of(recording: Path, work: Path) -> dict[str, list]:
     """The tools that read a recording or a feed, each with its arguments."""
-    extracted(recording, 1, work / "x.feed")
-    to_pcap = ["convert", "to-pcap", "--force", work / "x.feed", work / "x.pcap"]
-    outcome(CONVERT, *to_pcap[1:])
     return {
         "info": ["info", recording],
         "salvage": ["salvage", "--force", recording, work / "out.ch11"],
-        "pcapng": ["pcapng", "--force", recording.with_suffix(".pcapng"), recording],
-        "to-pcap": to_pcap,
-        "from-pcap": ["convert", "from-pcap", "--force", work / "x.pcap", work / "y.feed"],
+        "export": ["export", "--force", recording, recording.with_suffix(".pcapng")],
     }
 
 
-@pytest.mark.parametrize("tool", ["info", "salvage", "pcapng", "to-pcap", "from-pcap"])
+@pytest.mark.parametrize("tool", ["info", "salvage", "export"])
 def test_a_terminal_shows_bytes_rate_and_time_left(work: Path, recording: Path, tool: str) -> None:
     """Bytes, their share, a rate and the time left; the line is empty at the end. None with --quiet, and none in a
     pipe."""
@@ -95,7 +89,7 @@ def test_a_terminal_shows_bytes_rate_and_time_left(work: Path, recording: Path, 
 
 def test_what_takes_less_than_two_seconds_shows_nothing(work: Path, recording: Path) -> None:
     """What takes less than two seconds shows nothing."""
-    for words in ([INFO, recording], [SALVAGE, recording, work / "out.ch11"], [PCAPNG, work / "out.pcapng", recording]):
+    for words in ([INFO, recording], [SALVAGE, recording, work / "out.ch11"], [EXPORT, recording, work / "out.pcapng"]):
         status, told, _ = at_terminal(*words)
         judge(f"{words[0].name} is quick", (status, told) == (0, ""), told)
 
@@ -127,10 +121,10 @@ def test_what_is_told_meanwhile_stands_on_lines_of_its_own(work: Path, recording
     for at in range(500_000, len(data), 1_000_000):
         data[at] ^= 1
     (work / "damaged.ch11").write_bytes(data)
-    words = ["pcapng", work / "out.pcapng", work / "damaged.ch11"]
+    words = ["export", work / "damaged.ch11", work / "out.pcapng"]
     status, told, _ = at_terminal(sys.executable, "-c", AT_ONCE, *words)
     lines = [it.split(EMPTIED)[-1] for it in told.split("\r\n") if "are left out" in it]
-    wanted = rf"pcapng: {work}/damaged\.ch11: read 8 DataChecksum \d+: \d+ bytes are left out"
+    wanted = rf"bpfrec export: {work}/damaged\.ch11: read 8 DataChecksum \d+: \d+ bytes are left out"
     judge("faults on lines of their own", status == 1 and len(lines) == 4, told)
     judge("with nothing ahead", all(re.fullmatch(wanted, it) for it in lines), lines)
 

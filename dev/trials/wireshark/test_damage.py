@@ -12,7 +12,7 @@ from damage import damaged_sample, nested
 from frames import FRAMES, body_of, end_packet, frames_packet, header_of, packet_of, program_packet, sum_of
 from reading import SAMPLES, SEED, recording_of_three
 from rows import PLUGIN, expected_rows, printed, rows_of, tshark
-from support import BPFREC, MEBIBYTE, ROOT, judge, judge_quietly, outcome, run
+from support import BPFREC, MEBIBYTE, judge, judge_quietly, outcome, run, sums
 
 WANTED = {"bin/bpfrec": "make build", "tshark": "tshark", "time": "time"}
 # So many runs of tshark beside one another, and how many recordings are drawn.
@@ -31,7 +31,7 @@ def judge_damage(work: Path, name: str, data: bytes) -> None:
     judge_quietly(name, found == wanted, differing)
     told = outcome(BPFREC, "list", path).stderr.strip()
     judge_quietly(f"{name}: list told {told}", next((it["damage"] for it in found if "damage" in it), "") == told)
-    judge_sums(name, found, outcome(ROOT / "host/bin/check_sums", path).stdout.splitlines()[:-1])
+    judge_sums(name, found, sums(path).stdout.splitlines()[:-1])
     path.unlink()
 
 

@@ -24,7 +24,7 @@ from pcapng import frames_in
 from reading import SEED, recording_of_three
 from recorder import RECORDINGS
 from rows import expected_rows, printed, saved
-from support import BPFREC, CONVERT, PCAPNG, judge, judge_quietly, run
+from support import BPFREC, CONVERT, EXPORT, judge, judge_quietly, run
 from whole_file import Origin
 from whole_file import frames_in as frames_of_data
 from whole_file import whole_file
@@ -76,7 +76,7 @@ def test_a_scale_that_nobody_knows_is_said_of_each_row(work: Path, three: Path, 
 
 
 def test_times_are_those_of_convert(work: Path, three: Path) -> None:
-    """Times are those of `host/bin/convert to-pcap --facts`."""
+    """Times are those of `convert to-pcap --facts`."""
     recording = work / "x.ch11"
     shutil.copy(three, recording)
     (work / "x.ch11.json").write_text(json.dumps(facts_of_run(THREE_ORIGINS)))
@@ -119,7 +119,7 @@ def test_times_of_a_whole_file_are_those_of_its_time_packets(work: Path, more: l
     judge("also read twice", times_in(work, path, "-2") == wanted)
     rows = printed(work, "-r", path, "-T", "fields", "-e", "frame.time_epoch")
     judge("no row is of 1970", all(it.startswith("17") for it in rows), rows[:3])
-    run(PCAPNG, work / "whole.pcapng", path)
+    run(EXPORT, path, work / "whole.pcapng")
     found = run("tshark", "-r", work / "whole.pcapng", "-T", "fields", "-e", "frame.time_epoch").split()
     judge(
         "in pcapng", sorted(found) == sorted(f"{it // 10**9}.{it % 10**9:09}" for it in wanted), (found[:3], wanted[:3])

@@ -1,1 +1,1 @@
-"""bpfrec-chapter11: the whole Chapter 11 file of a recording, which bpfrec makes by settings that are made here."""
+"""bpfrec export: the whole Chapter 11 file of a recording, which bpfrec makes by settings that are made here."""

@@ -1,4 +1,4 @@
-"""The command line of bpfrec-chapter11."""
+"""Whole Chapter 11 files of recordings, which bpfrec export has the program make."""
 
 from __future__ import annotations
 
@@ -9,42 +9,14 @@ import tempfile
 from typing import IO, NoReturn, Optional
 
 from bpfrec_host import printing, program
-from bpfrec_host.arguments import Parser, full_name, short_name
+from bpfrec_host.arguments import name_of
 from bpfrec_host.chapter11.joining import Joined
 from bpfrec_host.chapter11.networks import networks_of
-from bpfrec_host.chapter11.options import add_setup_options
 from bpfrec_host.chapter11.setup import Asked, setup_text, told_by
 from bpfrec_host.chapter11.several import Recorded, channels_of
 from bpfrec_host.formats import facts
 from bpfrec_host.streams import STREAM, Refused, Taken, Unreadable, input_at, refuse_overwriting
 
-ABOUT = """\
-Makes a whole Chapter 11 file of recordings: with a setup record (TMATS), time packets and an index. Recordings of
-several recorders become one file, by the clock of each.
-
-OUT has all frames, programs and ends of RECORDING, merged by their counters and cut into packets of 100 ms at most.
-Times are UTC by the facts beside the recording, RECORDING.json. From these the setup record has the host, the
-recorder and the names of interfaces. The network identifier of a channel is that of its first frame.
-
-It writes what is set into SETUP, a text in TOML, and becomes `bpfrec chapter11 RECORDING SETUP OUT`, which makes the
-file and prints its counts. An OUT that exists and isn't empty is refused unless --force is given.
-
-Of several recordings each needs its facts, and no two may be of one interface. The first that has a channel ID keeps
-it. Another gets the least ID that no recording has and no other got, and a line is printed: `channel 1 of tap2.ch11 is
-3`. Counters are those since the earliest origin, so that each frame has the time of its own recorder's clock. They are
-joined in an unnamed file in the folder of OUT first, by whose places the program names what it refuses.
-"""
-MORE = """\
-An adapter's clock may have run UTC or atomic time (TAI). If the facts don't know which, RECORDING is refused unless
---utc or --tai says it. Both speak of such origins alone.
-
-A security classification is never made up: --attribute 'G\\SC:U' has one.
-
-It runs bpfrec: what BPFREC names, or the one beside it.
-
-Status: 0 made, 1 the recording or the facts are refused, 2 the arguments or SETUP are wrong, 3 a file can't be read or
-written, or OUT is taken, 4 out of memory.
-"""
 SECONDS = re.compile(r"-?[0-9]{1,12}(?:\.[0-9]{1,9})?")
 
 
@@ -52,26 +24,6 @@ class Unusable(Refused):
     """Arguments that don't go together, or that lack something."""
 
     status = 2
-
-
-def parser() -> Parser:
-    """The arguments of bpfrec-chapter11."""
-    name = full_name("chapter11")
-    usage = f"{name} [OPTION..] RECORDING.. OUT\n       {name} --print-setup [OPTION..] RECORDING.."
-    made = Parser(prog=name, usage=usage, description=ABOUT, epilog=MORE)
-    times = made.add_mutually_exclusive_group()
-    times.add_argument("--facts", metavar="FILE", help="the facts of the recording, if they aren't RECORDING.json")
-    times.add_argument(
-        "--origin",
-        metavar="SECONDS",
-        type=origin_of,
-        help="where there are no facts, the moment of counter 0 in UTC, in seconds since 1970 as 1764590400.25",
-    )
-    add_setup_options(made)
-    made.add_argument("--force", action="store_true", help="overwrites an OUT that exists")
-    made.add_argument("--print-setup", action="store_true", help="prints SETUP, and makes no file: there is no OUT")
-    made.add_argument("paths", metavar="RECORDING.. OUT", nargs="*")
-    return made
 
 
 def origin_of(word: str) -> str:
@@ -105,7 +57,7 @@ def facts_at(path: str) -> facts.Facts:
     except facts.NoFacts as fault:
         raise Refused(f"{path}: no facts of a recording: {fault}") from None
     if known.is_scale_unsaid:
-        printing.err(f"{short_name('chapter11')}: {path}: {facts.SCALE_UNSAID}")
+        printing.err(f"{name_of('export')}: {path}: {facts.SCALE_UNSAID}")
     return known
 
 
@@ -160,7 +112,7 @@ def as_operand(path: str) -> str:
     return os.path.join(".", path) if path.startswith("-") and path != STREAM else path
 
 
-def make(recording: str, setup: str, out: str) -> NoReturn:
+def become(recording: str, setup: str, out: str) -> NoReturn:
     """Becomes bpfrec, which makes the file by a SETUP in memory. So whatever ends this process ends that program."""
     bpfrec = program.find()
     descriptor = os.memfd_create("setup")
@@ -190,7 +142,7 @@ def make_of_one(given: argparse.Namespace) -> None:
     """Makes the file of one recording, or prints SETUP."""
     setup = setup_of(given)
     if is_made_of(setup, given):
-        make(given.recordings[0], setup, given.out)
+        become(given.recordings[0], setup, given.out)
 
 
 def make_of_several(given: argparse.Namespace) -> None:
@@ -202,7 +154,7 @@ def make_of_several(given: argparse.Namespace) -> None:
     with joined_file(joined, os.path.dirname(os.path.realpath(given.out))) as file:
         printing.out("".join(lines))
         os.set_inheritable(file.fileno(), True)
-        make(at_descriptor(file.fileno()), setup, given.out)
+        become(at_descriptor(file.fileno()), setup, given.out)
 
 
 def joined_file(joined: Joined, folder: str) -> IO[bytes]:
@@ -219,32 +171,19 @@ def joined_file(joined: Joined, folder: str) -> IO[bytes]:
     return file
 
 
-def arguments_of(arguments: list[str]) -> argparse.Namespace:
-    """The arguments, the last of which is OUT, but where SETUP is printed."""
-    made = parser()
-    end = arguments.index("--") if "--" in arguments else len(arguments)
-    given = made.parse_intermixed_args(arguments[:end])
-    paths = [*given.paths, *arguments[end + 1 :]]
-    given.recordings, given.out = (paths, None) if given.print_setup else (paths[:-1], paths[-1] if paths else None)
-    if not given.recordings:
-        made.error(f"the following arguments are required: {'OUT' if paths else 'RECORDING, OUT'}")
-    return given
-
-
-def run(arguments: list[str]) -> int:
+def make(given: argparse.Namespace) -> int:
     """Makes the whole Chapter 11 file of recordings: the status."""
-    given = arguments_of(arguments)
     try:
         if STREAM in given.recordings:
-            raise Unusable(f"{STREAM}: it is standard input, and chapter11 reads a file twice")
+            raise Unusable(f"{STREAM}: it is standard input, and a whole file is made by reading twice")
         if len(given.recordings) > 1:
             make_of_several(given)
         else:
             make_of_one(given)
         return 0
     except Refused as refused:
-        printing.err(f"{short_name('chapter11')}: {refused}")
+        printing.err(f"{name_of('export')}: {refused}")
         return refused.status
     except program.Missing as missing:
-        printing.err(f"{short_name('chapter11')}: {missing}")
+        printing.err(f"{name_of('export')}: {missing}")
         return Unreadable.status

@@ -6,7 +6,7 @@ from __future__ import annotations
 import argparse
 import re
 
-from bpfrec_host.arguments import Parser, natural
+from bpfrec_host.arguments import natural
 from bpfrec_host.formats.limits import MAX_TAI_OFFSET
 
 ATTRIBUTE = re.compile(r"([ -9<-~][ -9<-~]*):[ -:<-~]*")
@@ -18,7 +18,7 @@ OF_A_CHANNEL = re.compile(r"R-1\\(?:TK1|TK4|CHE|DSI|CDT|TTF|TFMT|TSRC|ENTF|NNET|
 LEADING_ZEROS = re.compile(r"(?<![0-9])0+(?=[0-9])")
 
 
-def add_setup_options(made: Parser) -> None:
+def add_setup_options(made: argparse._ActionsContainer) -> None:
     """The options that say what facts don't."""
     scales = made.add_mutually_exclusive_group()
     utc = "a clock whose scale is unknown ran UTC"

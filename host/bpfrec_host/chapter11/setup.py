@@ -37,7 +37,7 @@ class Asked(NamedTuple):
 
 def told_by(known: Facts) -> Told:
     """The same of one recording."""
-    return Told(known.host, known.program, known.origins, known.interfaces)
+    return Told(known.host, known.program, known.origins, known.shown_names())
 
 
 def setup_text(asked: Asked, known: Optional[Told], networks: dict[int, int]) -> str:

@@ -24,7 +24,7 @@ class Recorded(NamedTuple):
 
     def name_of(self, channel: int) -> str:
         """The interface that was a channel, or what a channel without one is called."""
-        return self.facts.interfaces.get(channel) or f"channel {channel}"
+        return self.facts.shown_name(channel) or f"channel {channel}"
 
 
 class Numbered(NamedTuple):
@@ -67,7 +67,8 @@ def judge_recorders(recordings: list[Recorded]) -> None:
             taken = known.setdefault((recorded.facts.host, interface), recorded.path)
             if taken != recorded.path:
                 whose = f"{interface} of {recorded.facts.host}"
-                raise Refused(f"{taken} and {recorded.path} are both of {whose}: each gets a file of its own")
+                line = f"{taken} and {recorded.path} are both of {whose}, as recordings of a run are"
+                raise Refused(f"{line}: each gets a file of its own, and a capture takes all")
 
 
 def numbered(recordings: list[Recorded]) -> list[Numbered]:

@@ -1,1 +1,1 @@
-"""bpfrec-follow: the frames of a recording that goes on, as pcapng, each packet as soon as it is written."""
+"""bpfrec follow: the frames of a recording that goes on, as pcapng, each packet as soon as it is written."""

@@ -1,4 +1,4 @@
-"""The command line of bpfrec-follow."""
+"""The command line of bpfrec follow."""
 
 from __future__ import annotations
 
@@ -10,7 +10,7 @@ import time
 from typing import Optional
 
 from bpfrec_host import printing
-from bpfrec_host.arguments import Parser, full_name, natural, short_name
+from bpfrec_host.arguments import Parser, name_of, natural
 from bpfrec_host.follow.growing import PAUSE, next_of
 from bpfrec_host.follow.runs import first_of
 from bpfrec_host.follow.view import Recording, View
@@ -21,7 +21,7 @@ ABOUT = """\
 Gives the frames of a recording that goes on as pcapng on standard output, each packet as soon as it is written, over
 the recordings of a run that follow one another, until the run ends:
 
-  bpfrec-follow flight.ch11 | wireshark -k -i -
+  bpfrec follow flight.ch11 | wireshark -k -i -
 
 RECORDING is a recording, or the name of a run whose recordings are numbered; then it begins with the newest. Each
 channel is an interface with the name that the facts beside the recording have for it, and times are those of the facts.
@@ -43,8 +43,8 @@ BUFFER_LEN = 1 << 20
 
 
 def parser() -> Parser:
-    """The arguments of bpfrec-follow."""
-    made = Parser(prog=full_name("follow"), description=ABOUT, epilog=MORE)
+    """The arguments of bpfrec follow."""
+    made = Parser(prog=name_of("follow"), description=ABOUT, epilog=MORE)
     made.add_argument("--channel", metavar="N", type=channel_of, action="append", help="this channel; several times")
     made.add_argument("--now", action="store_true", help="leaves out the frames that are in the recording already")
     made.add_argument("recording", metavar="RECORDING")
@@ -61,7 +61,7 @@ def channel_of(word: str) -> int:
 
 def tell_fault(line: str) -> None:
     """Tells a fault of a recording."""
-    printing.err(f"{short_name('follow')}: {line}")
+    printing.err(f"{name_of('follow')}: {line}")
 
 
 def follow(path: str, begins_now: bool, view: View) -> bool:

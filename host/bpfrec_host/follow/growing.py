@@ -87,7 +87,7 @@ class Growing:
 
     def name(self, channel: int) -> str:
         """The name of a channel's interface."""
-        return (self.known.facts.interfaces.get(channel) if self.known else None) or f"channel {channel}"
+        return (self.known.facts.shown_name(channel) if self.known else None) or f"channel {channel}"
 
     def has_all_ends(self) -> bool:
         """Whether it has the record of each channel's end."""

@@ -4,15 +4,14 @@ from __future__ import annotations
 
 import json
 import os
-from glob import escape, glob
 from typing import Any, NamedTuple, Optional
 
+from bpfrec_host.formats import runs
 from bpfrec_host.formats.facts import Facts, NoFacts, facts_in
 from bpfrec_host.formats.limits import MAX_FACTS_LEN
+from bpfrec_host.formats.runs import DIGITS, number_in
 from bpfrec_host.live.names import Names, facts_path
 from bpfrec_host.streams import Refused
-
-DIGITS = 5
 
 
 class Known(NamedTuple):
@@ -36,16 +35,12 @@ def known_of(path: str) -> Optional[Known]:
 
 def number_of(path: str, names: Names) -> Optional[int]:
     """The number of a recording in a run's names; None where it is none of them."""
-    middle = path[len(names.stem) + 1 : len(path) - len(names.ending)]
-    is_numbered = len(middle) >= DIGITS and middle.isascii() and middle.isdigit()
-    return int(middle) if is_numbered and path == f"{names.stem}_{middle}{names.ending}" else None
+    return number_in(path, names.stem, names.ending)
 
 
 def numbered(names: Names) -> list[tuple[int, str]]:
     """The recordings of a run's names that are there, in order."""
-    paths = glob(f"{escape(names.stem)}_*{escape(names.ending)}")
-    found = [(number_of(path, names), path) for path in paths]
-    return sorted((number, path) for number, path in found if number is not None)
+    return runs.numbered(names.stem, names.ending)
 
 
 def names_of(path: str) -> Names:
@@ -60,7 +55,7 @@ def first_of(path: str) -> str:
     """The recording that a path names: itself, or of a run's name the newest that is there."""
     if os.path.exists(path):
         return path
-    there = numbered(Names(path))
+    there = numbered(Names(path)) or numbered(Names(f"{path}{runs.ENDING}"))
     if not there:
         raise Refused(f"{path}: there is no such recording, and none that is numbered, as {Names(path).next()[1]}")
     return max((os.stat(found).st_mtime_ns, number, found) for number, found in there)[2]

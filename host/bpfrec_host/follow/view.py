@@ -26,7 +26,7 @@ from bpfrec_host.pcapng.index import body_of
 from bpfrec_host.pcapng.merging import program_text
 from bpfrec_host.pcapng.slices import CONTENT, FRAME, MARKS
 
-PROGRAM = "bpfrec-follow"
+PROGRAM = "bpfrec follow"
 
 
 class Interface:

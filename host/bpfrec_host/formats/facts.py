@@ -95,7 +95,9 @@ class Facts:
         self.is_scale_unsaid = told.get("clock") == "adapter" and lack
         self.losses = losses_in(told.get("losses"))
         self.interruptions = interruptions_in(told.get("interruptions"))
-        self.interfaces = interfaces_in(told.get("interfaces"))
+        self.interfaces = interfaces_in(told.get("interfaces"), "interface")
+        # What people call channels.
+        self.names = interfaces_in(told.get("interfaces"), "name")
         self.spans = spans_in(told.get("spans"))
         self.marks = marks_in(told.get("marks"))
         self.expressions = expressions_in(told.get("filters"))
@@ -109,6 +111,15 @@ class Facts:
         """The last origin whose counter is at most this one; None where there is none."""
         at = bisect_right(self.counters, counter) - 1
         return None if at < 0 else self.holding[at]
+
+    def shown_name(self, channel: int) -> Optional[str]:
+        """What a channel is called: its name with its interface, or that alone; None where neither is known."""
+        interface, name = self.interfaces.get(channel), self.names.get(channel)
+        return f"{name} ({interface})" if name and interface else name or interface
+
+    def shown_names(self) -> dict[int, str]:
+        """The same of all channels."""
+        return {it: self.shown_name(it) or "" for it in {**self.interfaces, **self.names}}
 
     def moment_of(self, counter: int) -> Optional[int]:
         """The moment of a frame with this counter, in nanoseconds since 1970, which is UTC but where nobody knows the
@@ -212,11 +223,12 @@ def text_in(told: Any) -> str:
     return told if isinstance(told, str) and len(told) <= MAX_HOST_LEN else ""
 
 
-def interfaces_in(told: Any) -> dict[int, str]:
-    """The names of interfaces by their channels. Nothing stands on them, so what has another form is left out."""
+def interfaces_in(told: Any, key: str) -> dict[int, str]:
+    """The names of interfaces or of channels by the channels. Nothing stands on them, so what has another form is left
+    out."""
     found: dict[int, str] = {}
     for entry in told if isinstance(told, list) else []:
-        name, channel = (entry.get("interface"), entry.get("channel")) if isinstance(entry, dict) else (None, None)
+        name, channel = (entry.get(key), entry.get("channel")) if isinstance(entry, dict) else (None, None)
         if isinstance(name, str) and is_number(channel, 1, MAX_CHANNEL_ID):
             found[int(channel or 0)] = name
     return found

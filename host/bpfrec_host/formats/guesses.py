@@ -6,9 +6,10 @@ import os
 
 from bpfrec_host.formats.ch11.packet import SYNC, header_fault
 from bpfrec_host.formats.limits import HEADER_LEN
-from bpfrec_host.formats.pcap import begins_classic
-from bpfrec_host.formats.pcapng import begins_pcapng
 
+# The first bytes of captures: of pcap in microseconds and nanoseconds, by both byte orders, and of pcapng.
+CLASSIC = {bytes.fromhex(it) for it in ("a1b2c3d4", "a1b23c4d", "d4c3b2a1", "4d3cb2a1")}
+PCAPNG = bytes.fromhex("0a0d0d0a")
 # So many of a file's first bytes are looked at.
 HEAD_LEN = 64
 
@@ -20,9 +21,9 @@ def begins_recording(head: bytes) -> bool:
 
 def guess_of(head: bytes) -> str:
     """What a file may be that is no recording, as a remark; none where that isn't known."""
-    if len(head) >= 4 and begins_classic(head[:4]):
+    if head[:4] in CLASSIC:
         return " (a pcap capture?)"
-    if len(head) >= 4 and begins_pcapng(head[:4]):
+    if head[:4] == PCAPNG:
         return " (a pcapng capture?)"
     return " (a text?)" if head and head.isascii() and b"\0" not in head else ""
 

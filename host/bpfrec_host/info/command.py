@@ -1,20 +1,23 @@
-"""The command line of bpfrec-info."""
+"""The command line of bpfrec info."""
 
 from __future__ import annotations
 
+import argparse
 import json
 import os
 from itertools import chain
-from typing import Optional
+from typing import Any, Optional
 
 from bpfrec_host import printing
-from bpfrec_host.arguments import Parser, full_name, short_name
+from bpfrec_host.arguments import Parser, name_of
 from bpfrec_host.formats.guesses import guess_at
 from bpfrec_host.formats.limits import MAX_VERSIONS
+from bpfrec_host.formats.runs import all_of
 from bpfrec_host.info.as_json import object_of
 from bpfrec_host.info.contents import MOST_PLACES, MOST_SECONDS, Recording, read
 from bpfrec_host.info.facts_file import FactsFile, facts_beside
 from bpfrec_host.info.page import page_parts
+from bpfrec_host.info.several import Part, text_of
 from bpfrec_host.info.text import text_parts
 from bpfrec_host.program import Audit, audit_of
 from bpfrec_host.streams import STREAM, input_at
@@ -35,6 +38,9 @@ whether the host's clock was synchronised at the beginning and at the end, and f
 and last frame. These times are UTC: if an adapter's clock ran atomic time (TAI), they are less by the seconds that it
 is ahead. Where nobody knows how the clock ran, `scale unknown` stands behind its times. The time between two frames is
 that of their counters.
+
+RECORDING may be the name of a run, which is all its recordings. Of several it prints a table of channels over all of them,
+with first and last times, and a line for each recording with its audit; --json has an object for each.
 
 RECORDING may be a whole Chapter 11 file too. By its setup record it prints the host, the program, whose clock it was
 and the names of channels. By its time packets it prints the times of the first and last of these, and those of each
@@ -57,9 +63,9 @@ memory.
 
 
 def parser() -> Parser:
-    """The arguments of bpfrec-info."""
-    made = Parser(prog=full_name("info"), description=ABOUT, epilog=MORE)
-    made.add_argument("recording", metavar="RECORDING")
+    """The arguments of bpfrec info."""
+    made = Parser(prog=name_of("info"), description=ABOUT, epilog=MORE)
+    made.add_argument("recordings", metavar="RECORDING", nargs="+")
     made.add_argument("--json", action="store_true", help="prints the same as one object")
     made.add_argument("--quiet", action="store_true", help="shows no progress on a terminal")
     made.add_argument("--html", metavar="FILE", help="writes a page: timelines, filters and the numbers")
@@ -92,24 +98,54 @@ def is_other(recording: Recording) -> bool:
     return is_empty and bool(recording.damages) and recording.damages[0].fault.name == "Sync"
 
 
-def run(arguments: list[str]) -> int:
-    """Tells what is in a recording: the status."""
-    given = parser().parse_args(arguments)
-    judge_output(given.recording)
-    audit = audit_of(given.recording, given.quiet)
+def part_at(path: str, is_quiet: bool) -> Optional[Part]:
+    """A recording with its audit and its facts; None of what is no recording, as a line says."""
+    judge_output(path)
+    audit = audit_of(path, is_quiet)
     # An audit that says yes has summed all data.
-    recording = read(given.recording, not audit.is_yes(), given.quiet)
+    recording = read(path, not audit.is_yes(), is_quiet)
     if is_other(recording):
-        printing.err(f"{short_name('info')}: {given.recording}: no recording{guess_at(given.recording)}")
-        return 1
+        printing.err(f"{name_of('info')}: {path}: no recording{guess_at(path)}")
+        return None
     if not recording.kinds and not recording.damages:
-        printing.err(f"{short_name('info')}: {given.recording}: it is empty: there is no packet")
-    beside = facts_beside(given.recording)
+        printing.err(f"{name_of('info')}: {path}: it is empty: there is no packet")
+    return Part(path, recording, audit, facts_beside(path))
+
+
+def object_of_part(part: Part) -> dict[str, Any]:
+    """A recording as an object."""
+    return object_of(part.recording, part.audit.answer, part.beside)
+
+
+def told_of(parts: list[Part]) -> dict[str, Any]:
+    """One recording as an object, or several as a list of them."""
+    if len(parts) == 1:
+        return object_of_part(parts[0])
+    return {"recordings": [{"path": it.path, **object_of_part(it)} for it in parts]}
+
+
+def show(given: argparse.Namespace, parts: list[Part]) -> None:
+    """Prints what is in recordings, or writes the page of one."""
+    (path, recording, audit, beside), *others = parts
     if given.json:
-        parts = json.JSONEncoder(indent=2).iterencode(object_of(recording, audit.answer, beside))
-        printing.out_parts(chain(parts, ["\n"]))
+        printing.out_parts(chain(json.JSONEncoder(indent=2).iterencode(told_of(parts)), ["\n"]))
+    elif others:
+        printing.out_parts(text_of(parts))
     elif not given.html:
         printing.out_parts(text_parts(recording, audit, beside))
     if given.html:
-        write_page(given.html, given.recording, recording, audit, beside)
-    return 1 if recording.damage_count else 0
+        write_page(given.html, path, recording, audit, beside)
+
+
+def run(arguments: list[str]) -> int:
+    """Tells what is in recordings: the status."""
+    made = parser()
+    given = made.parse_args(arguments)
+    paths = [path for it in given.recordings for path in all_of(it)]
+    if given.html and len(paths) > 1:
+        made.error("--html is for one recording")
+    found = [part_at(it, given.quiet) for it in paths]
+    parts = [it for it in found if it is not None]
+    if parts:
+        show(given, parts)
+    return 1 if len(parts) < len(paths) or any(it.recording.damage_count for it in parts) else 0

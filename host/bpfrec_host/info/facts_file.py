@@ -7,7 +7,7 @@ import stat
 from typing import NamedTuple, Optional
 
 from bpfrec_host import printing
-from bpfrec_host.arguments import short_name
+from bpfrec_host.arguments import name_of
 from bpfrec_host.formats import facts
 from bpfrec_host.formats.clock_state import ClockState, state_in
 
@@ -39,16 +39,16 @@ def facts_beside(recording: str) -> Optional[FactsFile]:
         found = FactsFile(path, facts.read(path))
     except (OSError, facts.NoFacts) as error:
         why = error.strerror if isinstance(error, OSError) else error
-        printing.err(f"{short_name('info')}: {path}: no facts of a recording: {why}")
+        printing.err(f"{name_of('info')}: {path}: no facts of a recording: {why}")
         return None
     if found.known.is_scale_unsaid:
-        printing.err(f"{short_name('info')}: {path}: {facts.SCALE_UNSAID}")
+        printing.err(f"{name_of('info')}: {path}: {facts.SCALE_UNSAID}")
     return found
 
 
 def interface_of(channel: int, beside: Optional[FactsFile]) -> str:
-    """The interface that was a channel, by the facts; nothing where it isn't known."""
-    return "" if beside is None else facts.on_a_line(beside.known.interfaces.get(channel, ""))
+    """The interface that was a channel, with the channel's name, by the facts; nothing where it isn't known."""
+    return "" if beside is None else facts.on_a_line(beside.known.shown_name(channel) or "")
 
 
 def span_of(channel: int, beside: Optional[FactsFile]) -> Optional[int]:

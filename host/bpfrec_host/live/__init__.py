@@ -1,1 +1,1 @@
-"""bpfrec-live: records network interfaces by `capture`, `bpfrec record` and `bpfrec audit`, as one command."""
+"""bpfrec live: records network interfaces by `capture`, `bpfrec record` and `bpfrec audit`, as one command."""

@@ -39,14 +39,14 @@ def refuse_few_descriptors(given: Arguments, channels: int) -> None:
     if is_under(soft, needed) and not is_under(hard, needed):
         resource.setrlimit(resource.RLIMIT_NOFILE, (hard, hard))
     elif is_under(soft, needed):
-        raise Refusal(3, f"live: it needs {needed} descriptors, and may have {hard}: ulimit -n {needed}")
+        raise Refusal(3, f"bpfrec live: it needs {needed} descriptors, and may have {hard}: ulimit -n {needed}")
 
 
 def refuse_many_channels(settings: Settings) -> None:
     """Refuses more channels than a recording has, before each of them is looked at."""
     fault = settings.count_fault()
     if fault:
-        raise Refusal(2, f"live: {settings.file}: {fault}")
+        raise Refusal(2, f"bpfrec live: {settings.file}: {fault}")
 
 
 def is_under(limit: int, needed: int) -> bool:
@@ -68,20 +68,20 @@ def refuse_holder() -> None:
     try:
         holder.encode()
     except UnicodeEncodeError:
-        raise Refusal(3, f"live: TMPDIR is not UTF-8: {os.fsencode(holder)!r}") from None
+        raise Refusal(3, f"bpfrec live: TMPDIR is not UTF-8: {os.fsencode(holder)!r}") from None
 
 
 def refuse_clock(given: Arguments) -> None:
     """Refuses a clock that is worse than one that is asked for."""
     fault = by_the_kernel().fault(given.clock_error)
     if fault:
-        raise Refusal(3, f"live: --require-clock: {fault}")
+        raise Refusal(3, f"bpfrec live: --require-clock: {fault}")
 
 
 def refuse_alarm_command(given: Arguments) -> None:
     """Refuses a program for alarms that isn't there."""
     if given.on_alarm and not shutil.which(given.on_alarm[0]):
-        raise Refusal(3, f"live: --on-alarm: {given.on_alarm[0]} is missing, or can't be run")
+        raise Refusal(3, f"bpfrec live: --on-alarm: {given.on_alarm[0]} is missing, or can't be run")
 
 
 def refuse_control(given: Arguments) -> None:
@@ -96,27 +96,40 @@ def refuse_signing(given: Arguments) -> None:
         if given.sign is not None:
             Signer(given.sign, longest=LONGEST_TRIAL).sign(PROBE)
     except Unsigned as why:
-        raise Refusal(3, f"live: --sign {given.sign}: {why}") from None
+        raise Refusal(3, f"bpfrec live: --sign {given.sign}: {why}") from None
+
+
+def refuse_captures(given: Arguments) -> None:
+    """Refuses options that captures don't go with, and captures that aren't files, of which the origin isn't known."""
+    live_alone = {"--every": given.every, "--size": given.size, "--prefilter": given.is_prefiltered or None}
+    asked = [option for option, value in live_alone.items() if value is not None]
+    if given.reads_captures() and asked:
+        raise Refusal(2, f"bpfrec live: {asked[0]} is for interfaces")
+    for route in given.routes if given.reads_captures() else ():
+        if not os.path.isfile(route.interface):
+            what = "it is no regular file" if os.path.exists(route.interface) else "no such file"
+            raise Refusal(3, f"bpfrec live: {route.interface}: {what}")
 
 
 def refuse_together(given: Arguments) -> None:
     """Refuses options that don't go together."""
+    refuse_captures(given)
     is_ring = given.keep is not None or given.keep_free is not None
     if is_ring and not given.is_rotating():
-        raise Refusal(2, "live: --keep and --keep-free need --every or --size")
+        raise Refusal(2, "bpfrec live: --keep and --keep-free need --every or --size")
     if is_ring and not given.is_audited:
-        raise Refusal(2, "live: --keep and --keep-free remove what was audited, and --no-audit audits nothing")
+        raise Refusal(2, "bpfrec live: --keep and --keep-free remove what was audited, and --no-audit audits nothing")
     if given.makes_whole_files and not given.is_audited:
-        raise Refusal(2, "live: --chapter11 is made of what was audited, and --no-audit audits nothing")
+        raise Refusal(2, "bpfrec live: --chapter11 is made of what was audited, and --no-audit audits nothing")
     if given.makes_whole_files and not given.routes:
-        raise Refusal(2, "live: --chapter11 needs an interface")
+        raise Refusal(2, "bpfrec live: --chapter11 needs an interface")
     if given.targets and not given.routes:
-        raise Refusal(2, "live: --publish needs an interface")
+        raise Refusal(2, "bpfrec live: --publish needs an interface")
     if given.targets and is_special(given.out):
-        raise Refusal(2, "live: --publish needs an OUT that is a file")
+        raise Refusal(2, "bpfrec live: --publish needs an OUT that is a file")
     if given.status_names and given.status is None:
-        raise Refusal(2, "live: --status-name needs --status")
+        raise Refusal(2, "bpfrec live: --status-name needs --status")
     if given.sign is not None and not given.routes:
-        raise Refusal(2, "live: --sign needs an interface")
+        raise Refusal(2, "bpfrec live: --sign needs an interface")
     if given.span is not None and not given.routes:
-        raise Refusal(2, "live: --span needs an interface")
+        raise Refusal(2, "bpfrec live: --span needs an interface")

@@ -58,7 +58,7 @@ class AlarmCommand:
 
     def err(self, what: str) -> None:
         """Tells what is wrong with the program."""
-        self.console.err(f"live: --on-alarm: {self.command[0]} {what}")
+        self.console.err(f"bpfrec live: --on-alarm: {self.command[0]} {what}")
 
     # ---- the program
 

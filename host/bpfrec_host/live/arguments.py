@@ -1,29 +1,26 @@
-"""The arguments of bpfrec-live."""
+"""The arguments of bpfrec live."""
 
 from __future__ import annotations
 
 import argparse
 import re
 import shlex
-from typing import Callable, NamedTuple, NoReturn, Optional
+from typing import NamedTuple, NoReturn, Optional
 
-from bpfrec_host.arguments import Parser, full_name
+from bpfrec_host.arguments import Parser, name_of, nearest
 from bpfrec_host.chapter11.options import add_setup_options, setup_arguments
 from bpfrec_host.formats.limits import MAX_COUNTER, TICKS_A_SECOND
 from bpfrec_host.live import journal
 from bpfrec_host.live.capture_options import add_capture_options
+from bpfrec_host.live.flight import flight_at, operands_with, words_of
 from bpfrec_host.live.help import ABOUT, MORE
 from bpfrec_host.live.model import are_rotating
 from bpfrec_host.live.operands import Route, operands_of
 from bpfrec_host.live.targets import Target, target_of
+from bpfrec_host.quantities import IN_PARTS, MAX_SECONDS, number, parts, seconds, size
 
 # The recorder opens OUT anew, to write it.
 OWNERS = 0o600
-MAX_SECONDS, MAX_BYTES = 999_999_999, 10**15 - 1
-# What may stand behind a number: in seconds, and in bytes.
-TIMES = {"": 1, "s": 1, "m": 60, "h": 3_600, "d": 86_400}
-SIZES = {"": 1, "k": 10**3, "M": 10**6, "G": 10**9}
-FRACTIONS = {"": 1.0, "s": 1.0, "ms": 1e-3, "us": 1e-6}
 # Of a clock's error, in seconds: the kernel counts microseconds, and takes a clock that may be off by more than this for
 # one that isn't synchronised.
 LEAST_ERROR, MOST_ERROR = 1e-6, 16
@@ -31,7 +28,6 @@ LEAST_ERROR, MOST_ERROR = 1e-6, 16
 LEAST_SYNC = 0.01
 # A span of a microsecond at least, and at most what a counter holds, in whole seconds.
 LEAST_SPAN, MOST_SPAN = 1e-6, MAX_COUNTER // TICKS_A_SECOND
-IN_SECONDS, IN_PARTS, IN_BYTES = ", in seconds, or as 10m", ", in seconds, or as 100ms, or 0", ", in bytes, or as 2G"
 
 
 class Arguments(NamedTuple):
@@ -81,6 +77,10 @@ class Arguments(NamedTuple):
         """Whether recordings follow one another."""
         return are_rotating(self.every, self.size)
 
+    def reads_captures(self) -> bool:
+        """Whether captures stand in the places of interfaces."""
+        return any(it.is_capture() for it in self.routes)
+
     def clock(self) -> str:
         """Whose times the frames have."""
         given = [it for at, it in enumerate(self.options) if at and self.options[at - 1] == "--clock"]
@@ -92,52 +92,18 @@ class LiveParser(Parser):
 
     def error(self, message: str) -> NoReturn:
         """Ends where the arguments are wrong."""
-        journal.err(f"live: {fault_of(message)}")
+        options = [it for action in self._actions for it in action.option_strings]
+        journal.err(f"bpfrec live: {fault_of(message, options)}")
         self.exit(2)
 
 
-def fault_of(message: str) -> str:
-    """A fault of argparse in the words of live."""
+def fault_of(message: str, options: list[str]) -> str:
+    """A fault of argparse in the words of live, which has these options."""
     found = re.fullmatch(r"argument (--[a-z-]+): (.*)", message)
     if found:
         return f"{found[1]} {'needs a value' if found[2].startswith('expected') else found[2]}"
     found = re.fullmatch(r"unrecognized arguments: (\S+).*", message, re.DOTALL)
-    return f"no such option: {found[1]}" if found else message
-
-
-def number(least: int, most: int, said: str, units: Optional[dict[str, int]] = None) -> Callable[[str], int]:
-    """What reads a number of a range, without zeros ahead, and the unit behind it; or several of them, as a sum."""
-    factors = units or {"": 1}
-
-    digits = rf"(?:0|[1-9][0-9]{{0,{len(str(most)) - 1}}})"
-
-    def read(word: str) -> int:
-        parts = re.findall(rf"({digits})([a-zA-Z]?)", word)
-        # Of several parts each has its unit, as 1h30m.
-        is_number = re.fullmatch(rf"{digits}[a-zA-Z]?|(?:{digits}[a-zA-Z])+", word)
-        sizes = [factors.get(unit, 0) for _, unit in parts]
-        # Each unit is smaller than the one before.
-        is_whole = is_number and all(sizes) and sizes == sorted(set(sizes), reverse=True)
-        value = sum(int(count) * factors[unit] for count, unit in parts) if is_whole else -1
-        if not least <= value <= most:
-            raise argparse.ArgumentTypeError(f"needs a number {said}")
-        return value
-
-    return read
-
-
-def parts(least: float, most: int, said: str, has_none: bool = False) -> Callable[[str], float]:
-    """What reads seconds of a range, and parts of them, as 0.01, 10ms or 500us; where there may be none also 0."""
-    whole = number(0, MAX_SECONDS, said, TIMES)
-
-    def read(word: str) -> float:
-        found = re.fullmatch(r"([0-9]{1,8}(?:\.[0-9]{1,6})?)(|s|ms|us)", word)
-        value = float(found[1]) * FRACTIONS[found[2]] if found else float(whole(word))
-        if not (least <= value <= most or has_none and not value):
-            raise argparse.ArgumentTypeError(f"needs a number {said}")
-        return value
-
-    return read
+    return f"no such option: {found[1]}{nearest(found[1], options)}" if found else message
 
 
 def clock_error(word: str) -> float:
@@ -172,20 +138,18 @@ def file_mode(word: str) -> int:
 
 
 def parser() -> Parser:
-    """The arguments of bpfrec-live."""
-    name = full_name("live")
+    """The arguments of bpfrec live."""
+    name = name_of("live")
     made = LiveParser(
         prog=name,
-        usage=f"{name} [OPTION..] [SETTINGS] OUT [INTERFACE[=CHANNEL[:EXPRESSION]]..]",
+        usage=f"{name} [OPTION..] FLIGHT\n       {name} [OPTION..] [SETTINGS] OUT [INTERFACE[=CHANNEL[:EXPRESSION]]..]",
         description=ABOUT,
         epilog=MORE,
         allow_abbrev=False,
     )
-    seconds = number(1, MAX_SECONDS, f"from 1 to {MAX_SECONDS}{IN_SECONDS}", TIMES)
     made.add_argument("--force", action="store_true", help="overwrites an OUT that exists")
     made.add_argument("--every", metavar="SECONDS", type=seconds, help="begins a new recording after this time")
     made.add_argument("--for", metavar="SECONDS", dest="seconds", type=seconds, help="ends the run after this time")
-    size = number(1, MAX_BYTES, f"from 1 on{IN_BYTES}", SIZES)
     made.add_argument("--size", metavar="BYTES", type=size, help="begins a new recording at BYTES bytes")
     sync = parts(LEAST_SYNC, MAX_SECONDS, f"from {LEAST_SYNC} to {MAX_SECONDS}{IN_PARTS}", has_none=True)
     made.add_argument("--sync", metavar="SECONDS", type=sync, default=1, help="how often OUT is forced to its disk")
@@ -222,21 +186,32 @@ def add_outside_options(made: Parser) -> None:
     made.add_argument("--require-clock", metavar="SECONDS", dest="clock_error", type=clock_error, help=asked)
     ran = "runs a program when an alarm begins or ends"
     made.add_argument("--on-alarm", metavar="COMMAND", type=command_words, help=ran)
-    made.add_argument("--control", metavar="PATH", help="takes lines by a Unix socket too: bpfrec-control sends them")
+    made.add_argument("--control", metavar="PATH", help="takes lines by a Unix socket too: bpfrec tell sends them")
     sent = "sends what is recorded there by UDP; may be given again"
     form = "ADDRESS:PORT[,ttl=N][,interface=NAME][,datagram=BYTES]"
     made.add_argument("--publish", metavar=form, type=target_of, action="append", default=[], help=sent)
 
 
+def given_by(made: Parser, arguments: list[str]) -> tuple[argparse.Namespace, list[str]]:
+    """The options and the operands of a command line, with those of the flight that it names."""
+    end = arguments.index("--") if "--" in arguments else len(arguments)
+    given = made.parse_intermixed_args(arguments[:end])
+    operands = [*given.operands, *arguments[end + 1 :]]
+    flight = flight_at(operands[0]) if operands else None
+    if flight:
+        operands = operands_with(flight, operands)
+        given = parser().parse_intermixed_args([*words_of(flight, made, arguments[:end]), *arguments[:end]])
+    return given, operands
+
+
 def read(arguments: list[str]) -> Arguments:
     """The arguments of a command line; one that is wrong ends live, or is a Refusal."""
-    end = arguments.index("--") if "--" in arguments else len(arguments)
     made = parser()
-    given = made.parse_intermixed_args(arguments[:end])
+    given, operands = given_by(made, arguments)
     setup = setup_arguments(given)
     if setup and not given.chapter11 and not given.publish:
         made.error(f"{setup[0].partition('=')[0]} is for --chapter11 and --publish")
-    named = operands_of([*given.operands, *arguments[end + 1 :]])
+    named = operands_of(operands)
     return Arguments(
         settings=named.settings,
         out=named.out,

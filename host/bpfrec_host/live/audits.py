@@ -33,7 +33,7 @@ class Audits:
             with open(self.guard.lifeline_of_live(), "rb", buffering=0) as lifeline:
                 child = recorder.start_audit(self.bpfrec, self.guard.all, lifeline.fileno())
         except OSError as error:
-            self.err(f"live: {recorder.about.out} can't be audited: {error.strerror}")
+            self.err(f"bpfrec live: {recorder.about.out} can't be audited: {error.strerror}")
             self.loop.call_soon(lambda: self.end(recorder, FILE_FAULT))
             return True
         self.loop.follow(child, lambda status: self.end(recorder, status))
@@ -45,6 +45,8 @@ class Audits:
             self.err(file_fault(recorder.about.out) if line == file_fault("-") else line)
         if status > KILLED:
             number = status - KILLED
-            self.err(f"live: {self.bpfrec} audit was ended by signal {number}: {recorder.about.out} isn't audited")
+            self.err(
+                f"bpfrec live: {self.bpfrec} audit was ended by signal {number}: {recorder.about.out} isn't audited"
+            )
         recorder.report += recorder.text("audit")
         self.audited(recorder.recording, status)

@@ -52,12 +52,18 @@ class Capture:
         """Its command line."""
         arguments = [self.program, *self.given.options]
         arguments += ["--quiet"] if self.has_table else []
+        if self.given.reads_captures():
+            return [*arguments, "--events", str(self.folder.events), "--parent", str(os.getpid()), *self.files()]
         arguments += ["--counts", str(self.counts.writer)] if self.counts else []
         arguments += self.folder.prefilters() if self.given.is_prefiltered else []
         arguments += self.folder.span_arguments()
         arguments += ["--events", str(self.folder.events), "--parent", str(os.getpid())]
         arguments += ["--hold", str(HOLD)] if self.given.is_rotating() else []
         return arguments + self.folder.sources()
+
+    def files(self) -> list[str]:
+        """Its captures with their pipes."""
+        return ["-r", *self.folder.sources()]
 
     def start(self, everybody: int, ended: Callable[[int], None]) -> None:
         """Starts it. `everybody` is what each program has open that live starts."""

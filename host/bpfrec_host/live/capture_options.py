@@ -1,4 +1,4 @@
-"""The options of bpfrec-live that are the capture's own, which are passed on as they were given, but for times of day and
+"""The options of bpfrec live that are the capture's own, which are passed on as they were given, but for times of day and
 sizes with a unit."""
 
 from __future__ import annotations
@@ -10,12 +10,13 @@ from typing import Optional
 
 from bpfrec_host.formats.facts import utc_of
 from bpfrec_host.formats.time_of_day import last_to, time_of_day
+from bpfrec_host.quantities import size
 
 # Those with a value, and those without.
 ORIGIN, BUFFER = "--origin", "--buffer"
 VALUED = (ORIGIN, BUFFER, "--direction", "--clock", "--check-sequence")
 PLAIN = ("--quiet", "--no-promiscuous")
-SIZES, MEBIBYTE = {"M": 10**6, "G": 10**9}, 1 << 20
+MEBIBYTE = 1 << 20
 
 
 def add_capture_options(parser: argparse.ArgumentParser) -> None:
@@ -46,5 +47,5 @@ def for_capture(option: Optional[str], value: str) -> str:
     of_day = time_of_day(value) if option == ORIGIN else None
     if of_day is not None:
         return utc_of(last_to(of_day, time.time_ns()))
-    size = re.fullmatch(r"([1-9][0-9]{0,6})([MG])", value) if option == BUFFER else None
-    return str(max(int(size[1]) * SIZES[size[2]] // MEBIBYTE, 1)) if size else value
+    is_size = option == BUFFER and re.fullmatch(r"[1-9][0-9]{0,6}[MG]B?", value)
+    return str(max(size(value) // MEBIBYTE, 1)) if is_size else value

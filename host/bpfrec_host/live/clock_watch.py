@@ -102,4 +102,4 @@ class ClockWatch:
 def line_of(state: ClockState, most: Optional[float]) -> str:
     """The line of a state."""
     fault = state.fault(most)
-    return f"live: clock: {state.text()}{f': --require-clock: {fault}' if fault else ''}"
+    return f"bpfrec live: clock: {state.text()}{f': --require-clock: {fault}' if fault else ''}"

@@ -1,4 +1,4 @@
-"""The command line of bpfrec-live: what would be lost or would not work is refused before anything is begun."""
+"""The command line of bpfrec live: what would be lost or would not work is refused before anything is begun."""
 
 from __future__ import annotations
 
@@ -55,7 +55,7 @@ def run(arguments: list[str], observer: Optional[Observer] = None) -> int:
         journal.err(refusal.line)
         return refusal.status
     if signals.come():
-        journal.err("live: it was ended before anything was begun")
+        journal.err("bpfrec live: it was ended before anything was begun")
         return 3
     try:
         recording = Run(given, programs, folder, signals, observer or status, terminal)
@@ -95,7 +95,7 @@ def made_status(given: Arguments, limit: object, terminal: Terminal) -> Optional
         has_ring = given.keep is not None or given.keep_free is not None
         return Status(endpoint, terminal, given.sync, longest, has_ring) if is_watched else None
     except (BadEndpoint, NoServer) as why:
-        raise Refusal(why.status, f"live: {why}") from None
+        raise Refusal(why.status, f"bpfrec live: {why}") from None
 
 
 def find_programs(given: Arguments) -> Programs:
@@ -103,11 +103,11 @@ def find_programs(given: Arguments) -> Programs:
     try:
         bpfrec = program.find()
     except program.Missing as why:
-        raise Refusal(3, f"live: {why}") from None
+        raise Refusal(3, f"bpfrec live: {why}") from None
     capture = program.capture_path()
     if given.routes and not shutil.which(capture):
         made = "make build makes it where libpcap's headers are (apt-get install libpcap-dev)"
-        raise Refusal(3, f"live: {capture} is missing: {made}")
+        raise Refusal(3, f"bpfrec live: {capture} is missing: {made}")
     return Programs(bpfrec, capture)
 
 
@@ -116,7 +116,7 @@ def look_ahead(given: Arguments) -> None:
     if given.settings is not None:
         why = unreadable(given.settings)
         if why:
-            raise Refusal(3, f"live: {why}")
+            raise Refusal(3, f"bpfrec live: {why}")
         if os.path.exists(given.out) and os.path.samefile(given.out, given.settings):
             raise Refusal(3, f"file {given.out}")
     refuse_together(given)
@@ -133,8 +133,8 @@ def look_ahead(given: Arguments) -> None:
             refuse_long(given.out, bool(given.routes), given.sign is not None)
         return
     if not given.routes:
-        raise Refusal(2, "live: --every and --size need an interface")
+        raise Refusal(2, "bpfrec live: --every and --size need an interface")
     if os.path.exists(given.out) and not os.path.isfile(given.out):
-        raise Refusal(2, f"live: --every and --size make files, and {given.out} is not a file")
+        raise Refusal(2, f"bpfrec live: --every and --size make files, and {given.out} is not a file")
     refuse_folder(given.out)
     refuse_long(Names(given.out).next()[1], True, given.sign is not None)

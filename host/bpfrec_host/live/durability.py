@@ -67,7 +67,7 @@ class Durability:
             recorder.keeper.start()
         except (OSError, RuntimeError) as error:
             recorder.keeper = None
-            self.err(f"live: {recorder.about.out} isn't forced to its disk, and has no facts: {error}")
+            self.err(f"bpfrec live: {recorder.about.out} isn't forced to its disk, and has no facts: {error}")
             return
         self.threads = [*(thread for thread in self.threads if thread.is_alive()), recorder.keeper]
         self.write(recorder)
@@ -113,4 +113,4 @@ class Durability:
         """Tells that facts couldn't be written."""
         if not recorder.is_told and not recorder.recording.has_failed:
             recorder.is_told = True
-            self.err(f"live: {facts_path(recorder.about.out)} can't be written")
+            self.err(f"bpfrec live: {facts_path(recorder.about.out)} can't be written")

@@ -28,4 +28,4 @@ class EndProgress:
             return
         self.next_at = now + PAUSE
         for what in filter(None, (awaited() for awaited in self.awaited)):
-            self.err(f"live: waits for {what}")
+            self.err(f"bpfrec live: waits for {what}")

@@ -17,21 +17,43 @@ Entry = dict[str, Any]
 
 class Origin(NamedTuple):
     """The moment from which counters count, from a counter on, and by how much the clock was set: each in seconds. And
-    in which time scale it is, None where nobody knows, with how many seconds TAI is ahead of UTC."""
+    in which time scale it is, None where nobody knows, with how many seconds TAI is ahead of UTC. `setting` numbers the
+    times that the clock was set, from 1 on."""
 
     origin: str
     counter: int
     set_by: Optional[str]
     scale: Optional[str]
     tai_offset: Optional[int]
+    setting: Optional[int] = None
 
     def facts(self) -> Entry:
         """The origin as the facts have it, with its scale also where nobody knows it."""
-        return {name: value for name, value in self._asdict().items() if value is not None or name == "scale"}
+        told = {name: value for name, value in self._asdict().items() if value is not None or name == "scale"}
+        told.pop("setting", None)
+        return told
 
     def is_again(self, other: Origin) -> bool:
-        """Whether it is another origin once more, of which no more than the scale may be a new one."""
+        """Whether it is another origin once more: of the same setting, since when that holds is known better by now;
+        else no more than the scale may be a new one."""
+        if self.setting is not None:
+            return self.setting == other.setting
         return self[:3] == other[:3]
+
+    def is_before(self, other: Origin) -> bool:
+        """Whether the clock was set to the other one later."""
+        return self.setting is not None and other.setting is not None and self.setting < other.setting
+
+
+def with_origin(origins: list[Origin], added: Origin) -> list[Origin]:
+    """Origins with one more, in the place of the one that it is again."""
+    kept = [it for it in origins if it.setting is None or not added.is_again(it)]
+    if kept and added.is_again(kept[-1]):
+        kept.pop()
+    at = len(kept)
+    while at > 0 and added.is_before(kept[at - 1]):
+        at -= 1
+    return [*kept[:at], added, *kept[at:]]
 
 
 class Loss(NamedTuple):
@@ -84,7 +106,8 @@ Event = Union[Origin, Loss, Counted, LostInAll, Link]
 
 def origin_of(told: Entry) -> Origin:
     """The origin that an object is."""
-    return Origin(told["origin"], told["counter"], told.get("set_by"), told.get("scale"), told.get("tai_offset"))
+    names = ("set_by", "scale", "tai_offset", "setting")
+    return Origin(told["origin"], told["counter"], *(told.get(it) for it in names))
 
 
 def loss_of(told: Entry) -> Loss:
@@ -163,10 +186,7 @@ class Events:
     def take(self, event: Event) -> None:
         """Takes an event."""
         if isinstance(event, Origin):
-            # It comes again once frames have shown their scale.
-            if self.origins and event.is_again(self.origins[-1]):
-                self.origins.pop()
-            self.origins.append(event)
+            self.origins = with_origin(self.origins, event)
         elif isinstance(event, Loss):
             self.losses.setdefault(event.feed, []).append(event)
         elif isinstance(event, Counted):

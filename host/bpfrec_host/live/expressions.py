@@ -71,10 +71,10 @@ def listing_in_words(place: str, text: str) -> str:
     """The listing of a filter in words, which stands at this place; a Refusal where it has none."""
     arguments = arguments_for(text, program.find())
     if arguments is None:
-        raise Refusal(3, f"live: {NO_TCPDUMP}")
+        raise Refusal(3, f"bpfrec live: {NO_TCPDUMP}")
     done = subprocess.run(arguments, stdin=subprocess.DEVNULL, capture_output=True, check=False)
     if done.returncode != 0:
-        raise Refusal(2, f"live: {place}: {fault_of(arguments, done.returncode, done.stderr)}")
+        raise Refusal(2, f"bpfrec live: {place}: {fault_of(arguments, done.returncode, done.stderr)}")
     return done.stdout.decode()
 
 

@@ -17,6 +17,7 @@ from bpfrec_host.live.arguments import Arguments
 from bpfrec_host.live.folder import Folder
 from bpfrec_host.live.names import Files, created_beside, facts_path, remove
 from bpfrec_host.live.noted import marks_of
+from bpfrec_host.live.operands import Route
 from bpfrec_host.live.synchronisation import synchronisation
 from bpfrec_host.streams import force_folder
 
@@ -71,7 +72,7 @@ class Writer:
             "origin_utc": None,
             "adapters": [adapter_of(it.interface, self.given.clock()) for it in self.given.routes],
             "synchronisation": {"begin": synchronisation(), "end": None},
-            "interfaces": [{"interface": it.interface, "channel": it.channel} for it in self.given.routes],
+            "interfaces": [self.interface_of(it) for it in self.given.routes],
             "settings": self.folder.text,
             "spans": [{"channel": channel, "span": span} for channel, span in self.folder.spans.items()],
             "filters": [self.with_text(it) for it in self.filters_at_the_beginning(about)],
@@ -81,6 +82,11 @@ class Writer:
         except OSError:
             pass
         return made
+
+    def interface_of(self, route: Route) -> Entry:
+        """Which interface is which channel, with the channel's name where it has one."""
+        found: Entry = {"interface": route.interface, "channel": route.channel}
+        return {**found, "name": self.folder.names[route.channel]} if route.channel in self.folder.names else found
 
     def filters_at_the_beginning(self, about: About) -> list[Entry]:
         """The filters that a recording began with; those by now, where there was no room for them."""

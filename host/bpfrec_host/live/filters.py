@@ -29,7 +29,7 @@ def judge_filter(name: str, path: str) -> None:
     """Refuses a file that is no valid listing; one that is a pipe is the recorder's to open."""
     why = unreadable(path)
     if why:
-        raise Refusal(3, f"live: {name}: {why}")
+        raise Refusal(3, f"bpfrec live: {name}: {why}")
     if is_special(path):
         return
     # A path that begins with - would be an option or standard input.
@@ -38,4 +38,4 @@ def judge_filter(name: str, path: str) -> None:
     if done.returncode > 0:
         answer = program.answer_of(done)
         what = no_listing(path) if is_no_listing(answer) else f"{answer}: filter {path}"
-        raise Refusal(done.returncode, f"live: {name}: {what}")
+        raise Refusal(done.returncode, f"bpfrec live: {name}: {what}")

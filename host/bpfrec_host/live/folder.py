@@ -28,6 +28,7 @@ from bpfrec_host.formats.settings_text import text_of
 from bpfrec_host.live import system
 from bpfrec_host.live.arguments import Arguments
 from bpfrec_host.live.expressions import gives_filter, listing_in_words, listing_of, name_of, settings_text, words_in
+from bpfrec_host.live.flight import texts_of, without_flight
 from bpfrec_host.live.names import Refusal
 from bpfrec_host.live.operands import Route
 from bpfrec_host.live.spans import shortest_of, spans_of
@@ -50,13 +51,13 @@ def read_settings(path: str) -> tuple[str, Settings]:
         if len(data) > MAX_LISTING_LEN:
             raise Refusal(3, f"file {path}")
         text = data.decode()
-        return text, settings_of(path, text)
+        return text, without_flight(settings_of(path, text))
     except (OSError, UnicodeDecodeError):
         raise Refusal(3, f"file {path}") from None
     except NoReader as why:
-        raise Refusal(3, f"live: {why}") from None
+        raise Refusal(3, f"bpfrec live: {why}") from None
     except NoToml as fault:
-        raise Refusal(2, f"live: {path}: settings 1 Syntax: {fault}") from None
+        raise Refusal(2, f"bpfrec live: {path}: settings 1 Syntax: {fault}") from None
 
 
 def made_settings(routes: list[Route]) -> tuple[str, Settings]:
@@ -73,12 +74,12 @@ def judge_settings(settings: Settings, given: Arguments) -> None:
         named = channel.table.get("id")
         if given.is_rotating() and not (isinstance(named, int) and named in wanted):
             told = "one without a line id" if named is None else named
-            what = "live: --every and --size need an interface for each channel"
+            what = "bpfrec live: --every and --size need an interface for each channel"
             raise Refusal(2, f"{what}, and {told} of {given.settings} has none")
     for route in given.routes:
         tables = [it for it in settings.channels if is_channel(it.table, route.channel)]
         if not tables:
-            raise Refusal(2, f"live: {given.settings} has no table [[channel]] with a line id = {route.channel}")
+            raise Refusal(2, f"bpfrec live: {given.settings} has no table [[channel]] with a line id = {route.channel}")
         has_filter = route.expression or given.settings is None or any(it.path("filter") for it in tables)
         if given.is_prefiltered and not has_filter:
             what = f'live: --prefilter needs a line filter = ".." of channel {route.channel}'
@@ -96,6 +97,8 @@ class Folder:
 
     def __init__(self, text: str, settings: Settings, given: Arguments) -> None:
         self.text, self.settings, self.routes = text, settings, given.routes
+        # The names of channels, by their IDs.
+        self.names = texts_of(settings_of("-", text), "name")
         # The listings of filters that the arguments give channels, or SETTINGS in words.
         self.listings = {it.channel: listing_of(it) for it in given.routes if gives_filter(it, given)}
         self.words = words_in(settings, {it.channel for it in given.routes if gives_filter(it, given)})

@@ -198,7 +198,7 @@ class Hashes:
             self.tell_unhashed(out, outcome.why_unhashed)
         if self.signer and outcome.why_unsigned is not None and not job.has_to_go:
             self.lacks_facts = self.lacks_facts or facts_path(out) not in self.without.digests
-            self.err(f"live: {facts_path(out)} isn't signed: {outcome.why_unsigned}")
+            self.err(f"bpfrec live: {facts_path(out)} isn't signed: {outcome.why_unsigned}")
             self.unsigned(facts_path(out), outcome.why_unsigned)
         is_signed = self.signer is not None and outcome.why_unsigned is None
         job.finished((signature_path(facts_path(out)),) if is_signed else ())
@@ -207,7 +207,7 @@ class Hashes:
 
     def tell_unhashed(self, out: str, why: str) -> None:
         """Tells that a recording has no hash."""
-        self.err(f"live: {out} has no hash in its facts: {why}")
+        self.err(f"bpfrec live: {out} has no hash in its facts: {why}")
         self.unhashed(out, why)
 
     def let_go(self, out: str, why: str, remove: Callable[[], None]) -> None:

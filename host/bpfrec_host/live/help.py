@@ -1,4 +1,4 @@
-"""The texts of bpfrec-live's help."""
+"""The texts of bpfrec live's help."""
 
 ABOUT = """\
 Records each INTERFACE as a channel, until Ctrl-C, TERM or HUP. Then it records what is in the kernel's buffers, prints
@@ -9,6 +9,11 @@ Without SETTINGS all frames are recorded: the first interface is channel 1, the 
 INTERFACE=CHANNEL names by its channel ID. With SETTINGS each interface is one of their channels, which then needs no
 feed; a channel without an interface keeps the feed that SETTINGS gives it. INTERFACE=CHANNEL:EXPRESSION gives a channel
 the filter that tcpdump makes of an expression, as eth0=1:'udp port 53', with VLAN tags as they are on the wire.
+FLIGHT is SETTINGS that need no other word. Each key of its table [run] is an option, as every = "10min" or
+chapter11 = true, and `out` is OUT. A [[channel]] names its `interface`, a `name` and a `filter` in words. The command line
+wins over it. `bpfrec preflight flight.toml` says all that is wrong with it.
+In the places of interfaces captures may stand, files that end in .pcap, .pcapng or .cap, as flight.pcap=1:'udp port 53'.
+Their origin is the earliest of their frames, or that of --origin.
 Lines on standard input change filters: `set <channel> <filter>`, where the filter is a file that is a listing or a text
 for bpfrec asm, or an expression, as `set 7 udp port 5004`. `mark TEXT` notes an event in the facts of the recording,
 with its counter and its time. `status` prints how the run goes, `next` begins the next recording of --every or --size,
@@ -21,12 +26,12 @@ of that for its channel. What is written is forced to the disk each second, so l
 --sync SECONDS at that interval, with 0 never.
 
 The facts of a recording of interfaces are in OUT.json beside it: the origin of its relative time counter (RTC, 10 MHz),
-interfaces, settings, filters, marks, what was lost and when, and in the end the report and the audit. `info` and
-`convert to-pcap --facts` take times from it.
+interfaces, settings, filters, marks, what was lost and when, and in the end the report and the audit. What reads
+recordings takes times from it.
 
-SECONDS may end with s, m, h or d, and BYTES with k, M or G (powers of 1,000), as 10m, 1h30m and 2G. --span, --sync and
---require-clock take parts of a second, as 0.25, 100ms or 500us. --buffer takes mebibytes, or M and G too. --origin takes
-a time of day too, as 23:36:10: the last such time, in UTC.
+SECONDS may end with s, m or min, h or d, and BYTES with k, M, G or T, also as kB (powers of 1,000), as 10min, 1h30m
+and 2GB. --span, --sync and --require-clock take parts of a second, as 0.25, 100ms or 500us. --buffer takes mebibytes,
+or M and G too. --origin takes a time of day too, as 23:36:10: the last such time, in UTC.
 
 With --every SECONDS or --size BYTES it begins a new recording when SECONDS have gone by since the last began, or when
 that has at least BYTES bytes; with both, at the first of them. Each recording is complete and audited on its own. A
@@ -58,13 +63,13 @@ fails or can't be started a line says so, and the recording never waits for it.
 If systemd reads standard error, each line has its priority ahead: <3> alarms and errors, <4> warnings, <6> all else.
 Alarms and warnings are lines too then.
 
---control PATH takes lines by a Unix socket too, which the owner alone may open: bpfrec-control PATH LINE sends one and
+--control PATH takes lines by a Unix socket too, which the owner alone may open: bpfrec tell PATH LINE sends one and
 waits for what it comes to. PATH is made when the run begins, and removed when it ends; a socket that a run left which
 was killed is replaced.
 
 --publish ADDRESS:PORT sends what is recorded to a ground station by UDP, as packets of Chapter 11, over all recordings of
 the run; several times to several. ADDRESS is a host or a multicast group; ttl=N and interface=NAME are the group's, and
-datagram=BYTES is the longest datagram. It is bpfrec-publish, in a process of its own for which nothing waits. What it
+datagram=BYTES is the longest datagram. It is bpfrec publish, in a process of its own for which nothing waits. What it
 prints is a line of live's. If it dies it is begun again with what comes then, and the status stays as it is.
 
 On a terminal a table shows each second how the recording goes, unless --quiet is given. With --status PORT a page shows

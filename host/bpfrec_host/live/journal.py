@@ -22,14 +22,14 @@ class Priority(Enum):
 # What a line says by how it begins, the first that holds; all else of live, of the capture and of files is an error, and
 # what remains is what was asked for.
 KINDS = [
-    (r"live: clock: .*--require-clock", Priority.ERROR),
+    (r"bpfrec live: clock: .*--require-clock", Priority.ERROR),
     (
-        r"live: (clock: synchronised|the next recording begins$|(alarm|warning) ended: |.* was removed: "
+        r"bpfrec live: (clock: synchronised|the next recording begins$|(alarm|warning) ended: |.* was removed: "
         r"|publish \S+: published packets )",
         Priority.NOTE,
     ),
     (
-        r"live: (clock: |warning: |next: |left of runs that were killed"
+        r"bpfrec live: (clock: |warning: |next: |left of runs that were killed"
         r"|\d+ lines were left out|.* LOST |.* was moved to |its guard was ended |publish \S+: )",
         Priority.WARNING,
     ),
@@ -46,7 +46,7 @@ KINDS = [
         Priority.WARNING,
     ),
     (r"refused ", Priority.WARNING),
-    (r"(live|capture): |file |SourceFault |memory$", Priority.ERROR),
+    (r"(bpfrec live|capture): |file |SourceFault |memory$", Priority.ERROR),
 ]
 
 

@@ -75,7 +75,7 @@ class Machine(Engine):
                 return
         if not self.plan.has_interfaces and self.is_open(self.current):
             # It waits for a feed of its own, and has recorded nothing.
-            self.err("live: it was ended before anything was recorded")
+            self.err("bpfrec live: it was ended before anything was recorded")
             self.recorded = self.recorded or FILE_FAULT
             self.happens(Event.SIGNAL_AT_START)
             return
@@ -87,7 +87,7 @@ class Machine(Engine):
         if recording.has_failed or self.is_ending() or recording is not self.current:
             return
         recording.has_failed = True
-        what = f"live: {recording.out} can't be written any more"
+        what = f"bpfrec live: {recording.out} can't be written any more"
         if self.plan.is_rotating():
             self.err(f"{what}: the next recording begins once there is room")
             self.retries.output_failed(time)
@@ -104,7 +104,7 @@ class Machine(Engine):
         if recording.is_unforced or recording.has_failed:
             return
         recording.is_unforced = True
-        self.err(f"live: {recording.out} can't be forced to its disk: {why}")
+        self.err(f"bpfrec live: {recording.out} can't be forced to its disk: {why}")
         self.recorded = self.recorded or OUTPUT_FAULT
         if recording is self.current:
             self.retries.output_failed(time)
@@ -128,7 +128,7 @@ class Machine(Engine):
             self.report(recording)
         elif was_killed and self.may_follow() and self.may_follow_killed():
             recording.was_killed = True
-            self.err("live: the next recording begins")
+            self.err("bpfrec live: the next recording begins")
             self.happens(Event.RECORDER_KILLED)
         else:
             recording.phase = recording.phase if self.state is State.RETRYING else Phase.ENDING
@@ -138,7 +138,7 @@ class Machine(Engine):
         """A recorder was killed: whether a next recording begins, for which the capture keeps the frames."""
         if self.retries.recorder_killed(self.time):
             return True
-        self.err(f"live: {MOST_KILLS} recorders in a row were killed within a minute: the recording ends")
+        self.err(f"bpfrec live: {MOST_KILLS} recorders in a row were killed within a minute: the recording ends")
         return False
 
     def capture_ended(self, status: int, time: float) -> None:
@@ -147,9 +147,11 @@ class Machine(Engine):
         self.time, self.captured = time, status
         self.timers.pop(Timer.HURRY, None)
         if status > KILLED and self.state is not State.REFUSED:
-            self.err(f"live: {self.capture_name} was ended by signal {status - KILLED}, and its interfaces with it")
+            self.err(
+                f"bpfrec live: {self.capture_name} was ended by signal {status - KILLED}, and its interfaces with it"
+            )
         elif ends_alone:
-            self.err(f"live: {self.capture_name} has ended, and its interfaces with it")
+            self.err(f"bpfrec live: {self.capture_name} has ended, and its interfaces with it")
             self.captured = status or 1
         if status in NOT_BEGUN and not self.is_ready:
             self.happens(Event.CAPTURE_REFUSED)
@@ -208,7 +210,7 @@ class Machine(Engine):
             return Event.CAPTURE_OVERDUE
         if not self.waits_for_reader(self.current):
             return Event.RECORDER_OVERDUE
-        self.err(f"live: nobody reads {self.current.out}: nothing was recorded")
+        self.err(f"bpfrec live: nobody reads {self.current.out}: nothing was recorded")
         self.recorded = self.recorded or FILE_FAULT
         return Event.RECORDER_UNREAD
 
@@ -236,6 +238,6 @@ class Machine(Engine):
 def recorder_was_killed(name: str, out: str, number: int) -> str:
     """What is said of a recorder that a signal ended."""
     return (
-        f"live: {name} record was ended by signal {number}: {out} has the packets that were written until then, "
+        f"bpfrec live: {name} record was ended by signal {number}: {out} has the packets that were written until then, "
         "which salvage copies"
     )

@@ -59,7 +59,7 @@ class Marks:
         if not fault and len(self.waiting) >= MAX_NOTED_MARKS:
             fault = f"{MAX_NOTED_MARKS:,} wait for the next recording, and no more can"
         if fault:
-            self.refuse(asker, f"live: mark: {fault}")
+            self.refuse(asker, f"bpfrec live: mark: {fault}")
             return
         self.waiting.append(Typed(steady, moment, text, asker))
         self.note_all()
@@ -86,7 +86,7 @@ class Marks:
     def finish(self) -> None:
         """The run has ended: says which marks no recording has."""
         for typed in self.waiting:
-            self.refuse(typed.asker, f"live: mark {typed.text}: the recording has ended")
+            self.refuse(typed.asker, f"bpfrec live: mark {typed.text}: the recording has ended")
         self.waiting.clear()
 
     # ---- how
@@ -97,7 +97,7 @@ class Marks:
             typed = self.waiting.popleft()
             fault = self.note(typed, self.current)
             if fault:
-                self.refuse(typed.asker, f"live: mark {typed.text}: {fault}")
+                self.refuse(typed.asker, f"bpfrec live: mark {typed.text}: {fault}")
 
     def refuse(self, asker: Asker, text: str) -> None:
         """Says why a mark isn't noted."""

@@ -8,6 +8,7 @@ import os
 import stat
 from typing import NamedTuple, Optional
 
+from bpfrec_host.formats.runs import split
 from bpfrec_host.formats.signatures import signature_path
 
 # Who may read a recording and its facts, but for what umask takes away.
@@ -101,7 +102,7 @@ class Files(NamedTuple):
             return
         for path in (out, facts_path(out), signature_path(facts_path(out)), *beside):
             if os.path.lexists(path) and (not self.is_forced or os.path.islink(path)):
-                raise Refusal(3, f"live: {path} is there: {advice(path, self.is_forced)}")
+                raise Refusal(3, f"bpfrec live: {path} is there: {advice(path, self.is_forced)}")
         if os.path.isdir(out):
             raise Refusal(3, f"file {out}")
 
@@ -134,9 +135,9 @@ def refuse_folder(out: str) -> None:
     """Refuses an OUT in a folder that isn't there, or in which nothing can be created."""
     folder = os.path.dirname(out) or "."
     if not os.path.isdir(folder):
-        raise Refusal(3, f"live: {out}: no such folder")
+        raise Refusal(3, f"bpfrec live: {out}: no such folder")
     if not os.access(folder, os.W_OK | os.X_OK):
-        raise Refusal(3, f"live: {out}: nothing can be created in its folder")
+        raise Refusal(3, f"bpfrec live: {out}: nothing can be created in its folder")
 
 
 def refuse_long(out: str, has_facts: bool, is_signed: bool = False) -> None:
@@ -147,18 +148,14 @@ def refuse_long(out: str, has_facts: bool, is_signed: bool = False) -> None:
     most = os.pathconf(os.path.dirname(out) or ".", "PC_NAME_MAX") - (len(longest) if has_facts else 0)
     if length > most:
         beside = " with its facts beside it" if has_facts else ""
-        raise Refusal(3, f"live: {out}: its name has {length} bytes, and may have {most}{beside}")
+        raise Refusal(3, f"bpfrec live: {out}: its name has {length} bytes, and may have {most}{beside}")
 
 
 class Names:
     """The names of recordings that follow one another: flight_00001.ch11 and so on for flight.ch11."""
 
     def __init__(self, out: str) -> None:
-        folder, file = os.path.split(out)
-        stem, dot, ending = file.rpartition(".")
-        if not stem:
-            stem, dot, ending = file, "", ""
-        self.stem, self.ending = os.path.join(folder, stem), f"{dot}{ending}"
+        self.stem, self.ending = split(out)
         self.number = 0
 
     def next(self) -> tuple[int, str]:

@@ -13,7 +13,7 @@ from bpfrec_host.live.ports import Counts, Marked, Observer, Setup
 from bpfrec_host.live.recorder import Recorder
 
 # What is said of the status where nobody observes the run.
-NOT_KEPT = "live: status: it wasn't kept from the beginning on"
+NOT_KEPT = "bpfrec live: status: it wasn't kept from the beginning on"
 # How often an observer is told that time goes by, in seconds.
 TICK = 1.0
 
@@ -48,7 +48,9 @@ class Observers:
         """Interfaces bring no frames from now on, or do again; one that nobody reads is reported in a line too."""
         for link in links:
             if link.away == UNREAD:
-                self.err(f"live: {link.interface}: no recorder reads its frames, which wait for the next recording")
+                self.err(
+                    f"bpfrec live: {link.interface}: no recorder reads its frames, which wait for the next recording"
+                )
             if self.observer:
                 self.observer.linked(link.interface, link.away, time.monotonic())
 

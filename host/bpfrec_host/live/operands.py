@@ -7,13 +7,16 @@ import re
 import socket
 from typing import NamedTuple, Optional
 
-from bpfrec_host.arguments import full_name
+from bpfrec_host.arguments import name_of
 from bpfrec_host.formats.ch11.packet import SYNC
 from bpfrec_host.formats.limits import MAX_CHANNEL_ID
 from bpfrec_host.live.names import Refusal
 
-# A name of an interface has neither `=` nor `/`.
-ROUTE = re.compile(r"(?P<interface>[^=/\s]+)(?:=(?P<channel>[^:]*)(?::(?P<expression>.*))?)?", re.DOTALL)
+# A name of an interface has neither `=` nor `/`; in its place may stand a capture, by its ending.
+ROUTE = re.compile(
+    r"(?P<interface>[^=]+\.(?:pcap|pcapng|cap)|[^=/\s]+)(?:=(?P<channel>[^:]*)(?::(?P<expression>.*))?)?", re.DOTALL
+)
+CAPTURES = (".pcap", ".pcapng", ".cap")
 CHANNEL_ID = re.compile(r"[1-9][0-9]{0,4}")
 
 
@@ -23,6 +26,10 @@ class Route(NamedTuple):
     interface: str
     channel: int
     expression: Optional[str] = None
+
+    def is_capture(self) -> bool:
+        """Whether it is a capture, in the place of an interface."""
+        return self.interface.endswith(CAPTURES)
 
 
 class Operands(NamedTuple):
@@ -35,19 +42,19 @@ class Operands(NamedTuple):
 
 def operands_of(operands: list[str]) -> Operands:
     """What the operands say; a Refusal names what is missing or wrong."""
-    help_text = f"{full_name('live')} --help has its arguments"
+    help_text = f"{name_of('live')} --help has its arguments"
     if not operands or (len(operands) == 1 and names_settings(operands)):
-        raise Refusal(2, f"live: it takes SETTINGS and OUT: {help_text}")
+        raise Refusal(2, f"bpfrec live: it takes SETTINGS and OUT: {help_text}")
     if names_settings(operands):
         settings, out, *rest = operands
         refuse_interface(settings, 3)
         if is_route(out):
-            raise Refusal(2, f"live: OUT is missing: it stands between {settings} and {out}")
+            raise Refusal(2, f"bpfrec live: OUT is missing: it stands between {settings} and {out}")
         return Operands(settings, dashed(out), routes_of(rest))
     out, *rest = operands
     refuse_interface(out, 2)
     if not rest:
-        raise Refusal(2, f"live: an INTERFACE is missing: it stands behind {out}")
+        raise Refusal(2, f"bpfrec live: an INTERFACE is missing: it stands behind {out}")
     return Operands(None, dashed(out), routes_of(numbered(rest)))
 
 
@@ -55,13 +62,13 @@ def refuse_interface(operand: str, status: int) -> None:
     """Refuses an interface that is here in the place of SETTINGS or OUT."""
     found = ROUTE.fullmatch(operand)
     if found and is_interface(found["interface"]) and not os.path.lexists(operand):
-        raise Refusal(status, f"live: {operand} is an interface: SETTINGS, OUT, then interfaces")
+        raise Refusal(status, f"bpfrec live: {operand} is an interface: SETTINGS, OUT, then interfaces")
 
 
 def dashed(out: str) -> str:
     """OUT as a path that no program takes for an option."""
     if out == "-":
-        raise Refusal(2, "live: -: OUT is a file or a named pipe, since standard output has the report")
+        raise Refusal(2, "bpfrec live: -: OUT is a file or a named pipe, since standard output has the report")
     return f"./{out}" if out.startswith("-") else out
 
 
@@ -87,7 +94,11 @@ def is_recording(path: str) -> bool:
 def is_route(operand: str) -> bool:
     """Whether an operand is an interface with its channel, or an interface that is here."""
     found = ROUTE.fullmatch(operand)
-    if not found or os.path.lexists(operand):
+    if not found:
+        return False
+    if found["interface"].endswith(CAPTURES):
+        return True
+    if os.path.lexists(operand):
         return False
     return is_channel_id(found["channel"] or "") or is_interface(found["interface"])
 
@@ -118,8 +129,10 @@ def routes_of(operands: list[str]) -> list[Route]:
     for operand in operands:
         route = route_of(operand)
         if any(it.channel == route.channel for it in routes):
-            raise Refusal(2, f"live: channel {route.channel} has two interfaces")
+            raise Refusal(2, f"bpfrec live: channel {route.channel} has two interfaces")
         routes.append(route)
+    if len({it.is_capture() for it in routes}) > 1:
+        raise Refusal(2, "bpfrec live: captures and interfaces have runs of their own")
     return routes
 
 
@@ -127,14 +140,14 @@ def route_of(operand: str) -> Route:
     """The interface, the channel and the expression of an operand."""
     found = ROUTE.fullmatch(operand)
     if not found:
-        raise Refusal(2, f"live: no INTERFACE=CHANNEL: {operand}")
+        raise Refusal(2, f"bpfrec live: no INTERFACE=CHANNEL: {operand}")
     interface, channel, expression = found["interface"], found["channel"], found["expression"]
     if interface.startswith("-"):
-        raise Refusal(2, f"live: {interface}: the name of an interface doesn't begin with -")
+        raise Refusal(2, f"bpfrec live: {interface}: the name of an interface doesn't begin with -")
     if channel is None:
-        raise Refusal(2, f"live: {operand}: with SETTINGS name its channel, as {operand}=1")
+        raise Refusal(2, f"bpfrec live: {operand}: with SETTINGS name its channel, as {operand}=1")
     if not is_channel_id(channel):
-        raise Refusal(2, f"live: {operand}: a channel ID is 1 to {MAX_CHANNEL_ID}")
+        raise Refusal(2, f"bpfrec live: {operand}: a channel ID is 1 to {MAX_CHANNEL_ID}")
     if expression is not None and not expression.strip():
-        raise Refusal(2, f"live: {interface}={channel}: the expression is empty")
+        raise Refusal(2, f"bpfrec live: {interface}={channel}: the expression is empty")
     return Route(interface, int(channel), expression)

@@ -106,8 +106,8 @@ def moved(recorder: Recorder) -> str:
     """What is said of an OUT that isn't where it was created."""
     to = os.readlink(f"/proc/self/fd/{recorder.descriptor}")
     if to.endswith(" (deleted)"):
-        return f"live: {recorder.about.out} was removed: it is recorded on, and gone at its end"
-    return f"live: {recorder.about.out} was moved to {to}: it is recorded on there"
+        return f"bpfrec live: {recorder.about.out} was removed: it is recorded on, and gone at its end"
+    return f"bpfrec live: {recorder.about.out} was moved to {to}: it is recorded on there"
 
 
 def is_empty(recorder: Recorder) -> bool:

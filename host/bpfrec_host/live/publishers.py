@@ -1,4 +1,4 @@
-"""What publishes a run: for each address a bpfrec-publish, which follows its recordings and is begun again where it dies.
+"""What publishes a run: for each address a bpfrec publish, which follows its recordings and is begun again where it dies.
 
 The recording waits for none of them, and its status isn't changed by one.
 """
@@ -8,25 +8,19 @@ from __future__ import annotations
 import os
 import signal
 import subprocess
-import sys
 import time
 from typing import Callable, Optional
 
-import bpfrec_host
 from bpfrec_host.live import children
 from bpfrec_host.live.capture_lines import CaptureLines
 from bpfrec_host.live.guard import Guard
 from bpfrec_host.live.loop import Loop
 from bpfrec_host.live.model import KILLED
 from bpfrec_host.live.targets import Target
+from bpfrec_host.starting import command_of
 
-# Runs the tool from where this package is, behind what records.
-CODE = (
-    "import os, sys; os.nice(5); sys.path.insert(0, sys.argv.pop(1)); from bpfrec_host.__main__ import run_tool; "
-    "sys.exit(run_tool('publish'))"
-)
-PLACE = os.path.dirname(os.path.dirname(os.path.abspath(bpfrec_host.__file__)))
-COMMAND = (sys.executable, "-I", "-B", "-c", CODE, PLACE)
+# By how much it is behind what records.
+NICE = 5
 # Seconds until one that died is begun again, when a receiver takes another sender. They double up to so many times where
 # it dies soon. For how long it has to run so that it didn't; and for how many seconds it may send what is left at the end
 # of a run.
@@ -50,7 +44,7 @@ class Publisher:
 
     def err(self, what: str) -> None:
         """Prints what is said of it."""
-        self.print_line(f"live: publish {self.target.address}: {what}")
+        self.print_line(f"bpfrec live: publish {self.target.address}: {what}")
 
     def begin(self, out: str) -> None:
         """A recording has begun. The one that runs follows the recordings of a run by itself."""
@@ -63,7 +57,14 @@ class Publisher:
         assert self.out
         self.begun, self.due = time.monotonic(), None
         lines = CaptureLines(self.loop, self.take_line)
-        words = [*COMMAND, "--stay", *options, *self.target.arguments(), "--", os.path.abspath(self.out)]
+        words = [
+            *command_of("publish", NICE),
+            "--stay",
+            *options,
+            *self.target.arguments(),
+            "--",
+            os.path.abspath(self.out),
+        ]
         try:
             self.child = self.started([*words, str(self.target.address)], lines)
         except OSError as error:
@@ -83,7 +84,7 @@ class Publisher:
 
     def take_line(self, line: str) -> None:
         """It has printed a line."""
-        for prefix in ("publish: ", f"{self.target.address}: "):
+        for prefix in ("bpfrec publish: ", f"{self.target.address}: "):
             line = line[len(prefix) :] if line.startswith(prefix) else line
         self.err(line)
 

@@ -87,7 +87,7 @@ class Recordings:
         except OSError:
             self.names.give_back(number)
         if self.told_of != out and not before.has_failed and not before.has_ended():
-            self.err(f"live: {out} can't be begun: {before.out} goes on")
+            self.err(f"bpfrec live: {out} can't be begun: {before.out} goes on")
         self.told_of = out
         return None
 

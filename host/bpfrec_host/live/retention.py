@@ -92,7 +92,7 @@ class Retention:
         oldest = self.kept.pop(0)
         if not oldest.is_there():
             return
-        self.err(f"live: {oldest.out} was removed: {why}")
+        self.err(f"bpfrec live: {oldest.out} was removed: {why}")
         self.leaving += 1
         self.let_go(oldest.out, f"it was removed: {why}", lambda: self.remove(oldest))
 

@@ -138,7 +138,7 @@ class Run:
         self.loop.follow(self.guard, self.end_guard)
         left = self.folder.leftovers()
         if left:
-            self.err(f"live: left of runs that were killed, and to be removed: {' '.join(left)}")
+            self.err(f"bpfrec live: left of runs that were killed, and to be removed: {' '.join(left)}")
         self.machine.begin(time.monotonic())
         while not self.machine.is_done():
             self.turn()
@@ -214,7 +214,7 @@ class Run:
 
     def end_guard(self, status: int) -> None:
         """The guard has ended, which it does by itself only once live has."""
-        self.err(f"live: its guard was ended by signal {status - KILLED}: all goes on without it")
+        self.err(f"bpfrec live: its guard was ended by signal {status - KILLED}: all goes on without it")
 
     # ---- the recorder
 
@@ -230,7 +230,7 @@ class Run:
                 recorder.hold_place()
             child = recorder.start(self.programs.bpfrec, self.guard.all, self.guard.lifeline_of_both())
         except OSError as error:
-            self.err(f"live: {self.programs.bpfrec} record can't be started: {error.strerror}")
+            self.err(f"bpfrec live: {self.programs.bpfrec} record can't be started: {error.strerror}")
             self.recordings.drop(recording)
             return False
         self.ended.hashes.begin(recording.number)
@@ -347,7 +347,7 @@ class Run:
         """Tells what interfaces lost in all, as the last lines: whether one did."""
         self.events.read()
         for lost in self.events.lost_in_all:
-            self.err(f"live: {lost.sentence()}")
+            self.err(f"bpfrec live: {lost.sentence()}")
         return bool(self.events.lost_in_all)
 
     def status(self, has_lost: bool) -> int:

@@ -35,4 +35,4 @@ def judge_spans(settings: Settings) -> None:
     for channel in settings.channels:
         fault = number_fault(channel.table.get("span", 0), CHANNEL_KEYS["span"], "span")
         if fault:
-            raise Refusal(2, f"live: {settings.file}: {channel.name}: {fault}")
+            raise Refusal(2, f"bpfrec live: {settings.file}: {channel.name}: {fault}")

@@ -34,7 +34,9 @@ class Lines:
     def put(self, *lines: str) -> None:
         """Writes lines, or counts them as left out."""
         for line in lines:
-            if self.left_out and self.write(f"live: {self.left_out} lines were left out: standard error had no room"):
+            if self.left_out and self.write(
+                f"bpfrec live: {self.left_out} lines were left out: standard error had no room"
+            ):
                 self.left_out = 0
             if self.left_out or not self.write(line):
                 self.left_out += 1

@@ -11,7 +11,7 @@ OPTIONS: dict[str, Callable[[str], object]] = {"ttl": ttl_of, "interface": str, 
 
 
 class Target(NamedTuple):
-    """Where a run is published: the address, and the options of bpfrec-publish that stand behind it."""
+    """Where a run is published: the address, and the options of bpfrec publish that stand behind it."""
 
     address: UdpAddress
     options: dict[str, str]
@@ -19,7 +19,7 @@ class Target(NamedTuple):
     setup: tuple[str, ...] = ()
 
     def arguments(self) -> list[str]:
-        """These as arguments of bpfrec-publish."""
+        """These as arguments of bpfrec publish."""
         return [*(f"--{name}={value}" for name, value in self.options.items()), *self.setup]
 
 

@@ -1,6 +1,6 @@
 """Whole Chapter 11 files of a run's recordings: each is made once its recording is approved and on its disk.
 
-One is made at a time, by bpfrec-chapter11, which ends with live, and gets its name once it is whole. What goes wrong is
+One is made at a time, by bpfrec export, which ends with live, and gets its name once it is whole. What goes wrong is
 told, and spoils no recording.
 """
 
@@ -9,13 +9,11 @@ from __future__ import annotations
 import errno
 import os
 import subprocess
-import sys
 import tempfile
 from collections import deque
 from dataclasses import dataclass, field
 from typing import IO, Callable, Optional
 
-import bpfrec_host
 from bpfrec_host.live import children
 from bpfrec_host.live.engine import FILE_FAULT
 from bpfrec_host.live.guard import Guard
@@ -23,15 +21,9 @@ from bpfrec_host.live.loop import Loop
 from bpfrec_host.live.model import KILLED
 from bpfrec_host.live.names import Files, created_beside, remove, whole_path
 from bpfrec_host.live.retention import Kept
+from bpfrec_host.starting import command_of
 from bpfrec_host.streams import force_folder_of
 
-# Runs the tool from where this package is: a checkout, or the one file of the installed tools.
-CODE = (
-    "import sys; sys.path.insert(0, sys.argv.pop(1)); from bpfrec_host.__main__ import run_tool; "
-    "sys.exit(run_tool('chapter11'))"
-)
-PLACE = os.path.dirname(os.path.dirname(os.path.abspath(bpfrec_host.__file__)))
-COMMAND = (sys.executable, "-I", "-B", "-c", CODE, PLACE)
 # How much of what the tool told is read.
 MOST_TOLD = 1 << 16
 GIVEN_UP = "the run was ended"
@@ -52,7 +44,7 @@ class Job:
 
 
 class WholeFiles:
-    """Makes them, with these options of bpfrec-chapter11; None where none are wanted. `err` takes a line for who
+    """Makes them, with these options of bpfrec export; None where none are wanted. `err` takes a line for who
     watches."""
 
     def __init__(
@@ -124,7 +116,11 @@ class WholeFiles:
             manner = children.Manner([self.guard.all], ends_with=lifeline.fileno())
             streams = (subprocess.DEVNULL, job.told, subprocess.STDOUT)
             try:
-                return children.start([*COMMAND, "--force", *(self.options or []), "--", *paths], streams, manner)
+                return children.start(
+                    [*command_of("export"), "--as=chapter11", "--force", *(self.options or []), "--", *paths],
+                    streams,
+                    manner,
+                )
             except OSError:
                 remove(job.following)
                 raise
@@ -152,7 +148,7 @@ class WholeFiles:
         except OSError as error:
             self.fail(job.out, error.strerror or str(error), FILE_FAULT)
             return
-        self.err(f"live: {job.out}: {told}")
+        self.err(f"bpfrec live: {job.out}: {told}")
         job.kept.beside.append(job.out)
 
     def why_not_made(self, job: Job, status: int, lines: list[str]) -> str:
@@ -166,7 +162,7 @@ class WholeFiles:
     def fail(self, out: str, why: str, status: int = 0) -> None:
         """Tells that a file couldn't be made, which is no fault where its recording had to go."""
         self.status = self.status or status
-        self.err(f"live: {out} isn't made: {why}")
+        self.err(f"bpfrec live: {out} isn't made: {why}")
 
     def finish(self, turn: Callable[[], None], is_given_up: Callable[[], bool]) -> None:
         """Waits until all are made, unless nobody waits for that any more."""

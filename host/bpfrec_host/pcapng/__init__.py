@@ -1,1 +1,1 @@
-"""bpfrec-pcapng: frames of recordings as one capture in pcapng."""
+"""bpfrec export: frames of recordings as one capture in pcapng."""

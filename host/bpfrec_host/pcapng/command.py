@@ -1,4 +1,4 @@
-"""The command line of bpfrec-pcapng."""
+"""Captures in pcapng of recordings, which bpfrec export makes."""
 
 from __future__ import annotations
 
@@ -7,75 +7,19 @@ import os
 from typing import BinaryIO, Optional, Union
 
 from bpfrec_host import printing
-from bpfrec_host.arguments import Parser, full_name, natural, short_name
+from bpfrec_host.arguments import name_of, natural
 from bpfrec_host.formats import facts
 from bpfrec_host.formats.limits import MAX_CHANNEL_ID
 from bpfrec_host.pcapng import output
 from bpfrec_host.pcapng.index import Index
 from bpfrec_host.pcapng.merging import Capture, Interface, interfaces_of
 from bpfrec_host.pcapng.recordings import Recording
-from bpfrec_host.pcapng.times import Times, dated, time_of
+from bpfrec_host.pcapng.times import Times, dated
 from bpfrec_host.progress import Progress
 from bpfrec_host.streams import STREAM, Refused, Unreadable, force, identity, refuse_twice
 
-ABOUT = """\
-Makes one capture in pcapng of recordings: of all their time or a slice of it, of all channels or some.
-
-Each channel of a recorder is an interface, with the name that the facts beside the recording have for it. A recorder
-is a host with its interface, by the facts; recordings without facts are of a recorder each. Frames stand in the order
-in which they came, so times step back where a clock was set back. Frames have their frame
-check sequence (FCS) and their error flags. Comments have the first filter of each channel, or the one in force where
-the slice begins, with the counts of the channel, and at the first frame after a change the filter from there on. They
-begin as those of bpfrec export, and go on with the filter's text. The comment of the
-capture has the recordings and their marks, and a mark is a comment of the first frame of its run that comes then or
-later.
-
-The packets of the slice are found by the headers of all packets, and no others are read. Of a channel whose packets
-rise by their counters, frames are looked for in the packets of the slice alone; else in all.
-
-If the facts are beside a recording, as RECORDING.json, times are UTC by the facts. Without facts they are UTC by the time
-packets of a whole Chapter 11 file, else the time since the relative time counter (RTC) was 0, from 1970 on. All
-recordings must have UTC times, or none. If the facts don't
-know in which scale a clock ran, its times are taken as they are, which is reported on standard error.
-"""
-MORE = """\
-TIME is seconds since counter 0, as 12.5, or UTC as 2025-12-01T12:00:00.25Z or 23:36:10.5, which needs facts that know
-it. Without its date it is the first such time since the beginning of the first recording, by the clock as it was set
-last; that of --to is the first since --from. So of recordings over several days later ones need their date.
-
-As OUT, `-` is standard output, and as RECORDING standard input; a pipe is copied into TMPDIR. It prints
-`frames <n> skipped <m>`, on standard error if OUT is standard output: m frames have another content, or fewer than 18
-bytes, and no capture can have them. When that is printed, OUT is on its disk.
-A damaged place is reported on standard error, and what is behind it is read.
-
-It runs bpfrec for the text of filters: what BPFREC names, or the one beside it; without it they are listings.
-
-Status: 0 done, 1 a recording is damaged or can't be used, 2 the arguments are wrong, 3 a file can't be read or
-written, or OUT exists, 4 out of memory.
-"""
-
-
 # After so many frames it is looked whether a line of progress is due.
 FRAMES_A_LOOK = 256
-
-
-def parser() -> Parser:
-    """The arguments of bpfrec-pcapng."""
-    made = Parser(prog=full_name("pcapng"), description=ABOUT, epilog=MORE)
-    made.add_argument("--from", dest="since", metavar="TIME", type=time_of, help="frames from this time on")
-    made.add_argument("--to", dest="until", metavar="TIME", type=time_of, help="frames before this time")
-    made.add_argument(
-        "--channel",
-        metavar="N",
-        type=channel_of,
-        action="append",
-        help="this channel, or interface by the facts; several times",
-    )
-    made.add_argument("--force", action="store_true", help="overwrites an OUT that exists")
-    made.add_argument("--quiet", action="store_true", help="shows no progress on a terminal")
-    made.add_argument("out", metavar="OUT")
-    made.add_argument("recordings", metavar="RECORDING", nargs="+")
-    return made
 
 
 def channel_of(word: str) -> Union[int, str]:
@@ -90,7 +34,7 @@ def channel_of(word: str) -> Union[int, str]:
 
 def tell_fault(line: str) -> None:
     """Tells a fault of a recording."""
-    printing.err(f"{short_name('pcapng')}: {line}")
+    printing.err(f"{name_of('export')}: {line}")
 
 
 def facts_beside(path: str) -> Optional[facts.Facts]:
@@ -154,7 +98,7 @@ def write_blocks(out: BinaryIO, recordings: list[Recording], interfaces: list[In
     """Writes the capture's blocks: how many frames they have."""
     count, capture = 0, Capture(recordings, interfaces)
     size = sum(each.slice.size() for it in interfaces for each in it.parts)
-    with Progress("pcapng", size, is_quiet) as progress:
+    with Progress("export", size, is_quiet) as progress:
         out.writelines(capture.head())
         for count, block in enumerate(capture.frames(), 1):
             out.write(block)
@@ -183,8 +127,8 @@ def judge_inputs(paths: list[str]) -> None:
     refuse_twice(others)
 
 
-def make(given: argparse.Namespace) -> int:
-    """Makes the capture: the status."""
+def make_capture(given: argparse.Namespace, line: Optional[str]) -> int:
+    """Makes the capture: the status. It prints its counts, or another line."""
     judge_inputs(given.recordings)
     inputs = [name for it in given.recordings for name in (it, f"{it}.json")]
     output.judge(given.out, inputs, given.force)
@@ -193,7 +137,7 @@ def make(given: argparse.Namespace) -> int:
     judge_asked(recordings, given.channel or [])
     interfaces = interfaces_of(recordings, given.channel)
     count = write(given.out, recordings, interfaces, given.quiet)
-    line = f"frames {count} skipped {sum(it.skipped() for it in interfaces)}"
+    line = line or f"frames {count} skipped {sum(it.skipped() for it in interfaces)}"
     if given.out == STREAM:
         printing.err(line)
     else:
@@ -201,11 +145,10 @@ def make(given: argparse.Namespace) -> int:
     return 1 if any(it.headers.is_damaged for it in recordings) else 0
 
 
-def run(arguments: list[str]) -> int:
-    """Makes a capture of recordings: the status."""
-    given = parser().parse_args(arguments)
+def make(given: argparse.Namespace, line: Optional[str] = None) -> int:
+    """Makes a capture of recordings: the status. It prints its counts, or another line."""
     try:
-        return make(given)
+        return make_capture(given, line)
     except Refused as refused:
         tell_fault(str(refused))
         return refused.status

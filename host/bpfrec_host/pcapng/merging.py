@@ -16,7 +16,7 @@ from bpfrec_host.pcapng.marks import Marks, Order
 from bpfrec_host.pcapng.recordings import Recorder, Recording, Run
 from bpfrec_host.pcapng.slices import Frame, Slice
 
-PROGRAM = "bpfrec-pcapng"
+PROGRAM = "bpfrec export"
 
 
 class Part(NamedTuple):
@@ -35,7 +35,7 @@ class Interface:
         # The program that was told last.
         self.told = next((it for it in (first_program(part.slice) for part in self.parts) if it), None)
         first = recordings[0]
-        self.name = first.interface_of(channel) or f"channel {channel}"
+        self.name = first.name_of(channel) or f"channel {channel}"
         self.source = first.recorder_of(channel).source
 
     def counts(self) -> str:

@@ -36,6 +36,10 @@ class Recording(NamedTuple):
         """The interface that was a channel, by the facts."""
         return self.times.facts.interfaces.get(channel) if self.times.facts else None
 
+    def name_of(self, channel: int) -> Optional[str]:
+        """What a channel is called, by the facts."""
+        return self.times.facts.shown_name(channel) if self.times.facts else None
+
     def recorder_of(self, channel: int) -> Recorder:
         """What recorded a channel. Recordings without facts may be of any recorders."""
         if self.times.facts is None:
@@ -51,5 +55,6 @@ class Recording(NamedTuple):
         return Run(facts.host, origin, tuple(sorted(facts.interfaces.items())))
 
     def channels_of(self, asked: Union[int, str]) -> set[int]:
-        """The channels of an ID, or of an interface."""
-        return {it for it in self.headers.channels if asked in (it, self.interface_of(it))}
+        """The channels of an ID, of an interface, or of a name."""
+        names = self.times.facts.names if self.times.facts else {}
+        return {it for it in self.headers.channels if asked in (it, self.interface_of(it), names.get(it))}

@@ -6,9 +6,9 @@ import argparse
 import re
 from typing import NamedTuple, Optional, Union
 
-from bpfrec_host.convert.moments import moment_of
 from bpfrec_host.formats.facts import Facts, Origin
 from bpfrec_host.formats.limits import MAX_COUNTER, NANOSECONDS_A_SECOND, NANOSECONDS_A_TICK
+from bpfrec_host.formats.moments import moment_of
 from bpfrec_host.formats.pcapng_blocks import MOST_UNITS
 from bpfrec_host.formats.time_of_day import first_from, time_of_day
 from bpfrec_host.streams import Refused

@@ -1,1 +1,1 @@
-"""bpfrec-preflight: all that is wrong with settings, filters, feeds and OUT, before a recording."""
+"""bpfrec preflight: all that is wrong with settings, filters, feeds and OUT, before a recording."""

@@ -1,4 +1,4 @@
-"""The command line of bpfrec-preflight."""
+"""The command line of bpfrec preflight."""
 
 from __future__ import annotations
 
@@ -7,9 +7,10 @@ import signal
 from typing import Container
 
 from bpfrec_host import printing, program
-from bpfrec_host.arguments import Parser, full_name
+from bpfrec_host.arguments import Parser, name_of
 from bpfrec_host.formats.limits import MAX_NUMBER
 from bpfrec_host.formats.settings import Channel, NoReader, Settings, reader
+from bpfrec_host.live.flight import flight_at
 from bpfrec_host.preflight.inputs import judge_capture, judge_channel_feed, judge_feed, judge_filter, judge_shared_feeds
 from bpfrec_host.preflight.keys import judge_channel_keys, judge_ids, judge_top, read_settings
 from bpfrec_host.preflight.live import judge_live
@@ -50,8 +51,8 @@ It runs bpfrec: what BPFREC names, or the one beside it. Nothing of this tool is
 
 
 def parser() -> Parser:
-    """The arguments of bpfrec-preflight."""
-    name = full_name("preflight")
+    """The arguments of bpfrec preflight."""
+    name = name_of("preflight")
     made = Parser(
         prog=name,
         usage=f"{name} SETTINGS [--out OUT] [--capture FEED]\n       {name} --live ARGUMENT..",
@@ -70,6 +71,9 @@ def judge(given: argparse.Namespace, report: Report) -> None:
     """Judges all that is named."""
     if given.live is not None:
         judge_live(given.live, judge_settings, report)
+        return
+    if flight_at(given.settings):
+        judge_live([given.settings], judge_settings, report)
         return
     settings = read_settings(given.settings, report)
     valid = [] if settings is None else judge_settings(settings, report)
@@ -116,7 +120,7 @@ def run(arguments: list[str]) -> int:
         program.find()
         judge(given, report)
     except (NoReader, NotJudged, program.Missing) as why:
-        printing.err(f"preflight: {why}")
+        printing.err(f"bpfrec preflight: {why}")
         return 2
     printing.out(f"{report.ending()}\n")
     return 1 if report.faults else 0

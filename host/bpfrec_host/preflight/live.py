@@ -1,4 +1,4 @@
-"""What `bpfrec-live` would refuse or lose with the same arguments: interfaces, permission, offloads, buffers, the origin
+"""What `bpfrec live` would refuse or lose with the same arguments: interfaces, permission, offloads, buffers, the origin
 and OUT."""
 
 from __future__ import annotations
@@ -15,7 +15,6 @@ from functools import partial
 from typing import Callable, Container, Optional
 
 from bpfrec_host import program
-from bpfrec_host.convert.moments import moment_of
 from bpfrec_host.formats.limits import (
     BUFFER_FOLD,
     BUFFERS_IN_MEMORY,
@@ -24,6 +23,7 @@ from bpfrec_host.formats.limits import (
     NANOSECONDS_A_TICK,
     USUAL_BUFFER,
 )
+from bpfrec_host.formats.moments import moment_of
 from bpfrec_host.formats.settings import Settings
 from bpfrec_host.live.adapters import asked
 from bpfrec_host.live.ahead import (
@@ -37,10 +37,12 @@ from bpfrec_host.live.ahead import (
 from bpfrec_host.live.arguments import Arguments, read
 from bpfrec_host.live.clock_watch import by_others, by_the_kernel
 from bpfrec_host.live.expressions import gives_filter, listing_in_words, listing_of, words_in
+from bpfrec_host.live.flight import Flight, flight_of, without_flight
 from bpfrec_host.live.folder import is_channel
 from bpfrec_host.live.folder import judge_settings as refuse_settings
 from bpfrec_host.live.names import Files, Names, Refusal, is_special, refuse_long
-from bpfrec_host.live.status import BadEndpoint, endpoint_in
+from bpfrec_host.live.status import BadEndpoint, NoServer, endpoint_in
+from bpfrec_host.live.status.server import Server
 from bpfrec_host.live.targets import Target
 from bpfrec_host.preflight.keys import read_settings
 from bpfrec_host.preflight.output import available_memory, judge_out
@@ -71,20 +73,16 @@ def judge_live(arguments: list[str], judge: Judge, report: Report) -> None:
     filter is in words."""
     try:
         given = read(arguments)
-        refuse_together(given)
-        refuse_endpoint(given)
-        refuse_holder()
-        refuse_alarm_command(given)
-        refuse_control(given)
-        refuse_signing(given)
         settings = read_settings(given.settings, report) if given.settings is not None else None
-        if settings:
-            with_pipes(settings, given)
-            refuse_settings(settings, given)
-        refuse_few_descriptors(given, max(len(given.routes), len(settings.recorded()) if settings else 0))
+        flight = flight_of(settings) if settings else None
     except Refusal as refusal:
         report.fault("live", without_name(refusal))
         return
+    if settings:
+        with_pipes(without_flight(settings), given)
+    judge_refusals(given, settings, report)
+    if flight:
+        tell_flight(given, flight, report)
     if settings:
         worded = words_in(settings, {it.channel for it in given.routes if gives_filter(it, given)})
         judge(settings, report, {it.channel for it in given.routes}, worded)
@@ -95,28 +93,58 @@ def judge_live(arguments: list[str], judge: Judge, report: Report) -> None:
             judge_words(route.interface, route.expression, partial(listing_of, route), report)
     judge_live_out(given, settings, report)
     judge_clock(given, report)
-    for route in given.routes:
-        judge_interface(route.interface, report)
     for target in given.targets:
         judge_target(target, report)
-    if given.routes:
+    if given.routes and not given.reads_captures():
+        for route in given.routes:
+            judge_interface(route.interface, report)
         judge_origin(given, report)
         judge_permission(report)
         judge_buffers(given, report)
 
 
+def judge_refusals(given: Arguments, settings: Optional[Settings], report: Report) -> None:
+    """What live would refuse, each alone, so that one fault hides no other."""
+    count = max(len(given.routes), len(settings.recorded()) if settings else 0)
+    calls = (refuse_together, refuse_endpoint, refuse_alarm_command, refuse_control, refuse_signing)
+    refusals: list[Callable[[], object]] = [partial(it, given) for it in calls]
+    refusals += [refuse_holder, partial(refuse_few_descriptors, given, count)]
+    refusals += [partial(refuse_settings, settings, given)] if settings else []
+    for refuse in refusals:
+        try:
+            refuse()
+        except Refusal as refusal:
+            report.fault("live", without_name(refusal))
+
+
+def tell_flight(given: Arguments, flight: Flight, report: Report) -> None:
+    """Says what will happen."""
+    named = [f"{it.interface} as channel {it.channel}{flight.shown_name(it.channel)}" for it in given.routes]
+    turns = [f", a new one after {given.every} s"] if given.every else []
+    turns += [f", a new one at {given.size} bytes"] if given.size else []
+    first = Names(given.out).next()[1] if given.is_rotating() else given.out
+    lines = [f"records {', '.join(named)}", f"into {first}{''.join(turns)}"]
+    lines += [f"publishes to {it.address}" for it in given.targets]
+    lines += [f"shows the status at {given.status}"] if given.status else []
+    lines += [f"takes lines at {given.control}"] if given.control else []
+    lines += [f"signs with {given.sign}"] if given.sign else []
+    for line in lines:
+        report.note(flight.file, line)
+
+
 def refuse_endpoint(given: Arguments) -> None:
-    """Refuses an address of the status that is none."""
+    """Refuses an address of the status that is none, or that can't be had."""
+    if given.status is None:
+        return
     try:
-        if given.status is not None:
-            endpoint_in(given.status, given.status_names)
-    except BadEndpoint as why:
-        raise Refusal(why.status, f"live: {why}") from None
+        Server(endpoint_in(given.status, given.status_names)).server_close()
+    except (BadEndpoint, NoServer) as why:
+        raise Refusal(why.status, f"bpfrec live: {why}") from None
 
 
 def without_name(refusal: Refusal) -> str:
     """What live would say, without its name ahead."""
-    return refusal.line[len("live: ") :] if refusal.line.startswith("live: ") else refusal.line
+    return refusal.line[len("bpfrec live: ") :] if refusal.line.startswith("bpfrec live: ") else refusal.line
 
 
 def with_pipes(settings: Settings, given: Arguments) -> None:

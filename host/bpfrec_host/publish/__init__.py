@@ -1,1 +1,1 @@
-"""bpfrec-publish: the packets of a recording as UDP datagrams, as it grows."""
+"""bpfrec publish: the packets of a recording as UDP datagrams, as it grows."""

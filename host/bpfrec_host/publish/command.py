@@ -1,4 +1,4 @@
-"""The command line of bpfrec-publish."""
+"""The command line of bpfrec publish."""
 
 from __future__ import annotations
 
@@ -13,7 +13,7 @@ from typing import Optional
 
 from bpfrec_host import printing
 from bpfrec_host.addresses import length_of, ttl_of, udp_address
-from bpfrec_host.arguments import Parser, full_name, short_name
+from bpfrec_host.arguments import Parser, name_of
 from bpfrec_host.chapter11.command import origin_of
 from bpfrec_host.chapter11.options import add_setup_options
 from bpfrec_host.chapter11.setup import Asked
@@ -29,7 +29,7 @@ ABOUT = """\
 Sends a recording that goes on to a ground station, by UDP: packets of Chapter 11 as they are written, in datagrams with
 the transfer header of Chapter 10, format 1.
 
-  bpfrec-publish flight.ch11 239.1.2.3:50000
+  bpfrec publish flight.ch11 239.1.2.3:50000
 
 RECORDING is a recording, or the name of a run whose recordings are numbered; then it begins with the newest, and goes on
 over those that follow until the run ends. ADDRESS:PORT is a host or a multicast group, of IPv6 as [ff02::1%eth0]:50000.
@@ -56,8 +56,8 @@ LONGEST_PAUSE = 0.1
 
 
 def parser() -> Parser:
-    """The arguments of bpfrec-publish."""
-    name = full_name("publish")
+    """The arguments of bpfrec publish."""
+    name = name_of("publish")
     made = Parser(prog=name, usage=f"{name} [OPTION..] RECORDING ADDRESS:PORT", description=ABOUT, epilog=MORE)
     made.add_argument("--now", action="store_true", help="leaves out the frames that are in the recording already")
     made.add_argument("--fast", action="store_true", help="sends one that has ended as fast as the socket takes it")
@@ -78,7 +78,7 @@ def parser() -> Parser:
 
 def err(line: str) -> None:
     """Prints what is wrong."""
-    printing.err(f"{short_name('publish')}: {line}")
+    printing.err(f"{name_of('publish')}: {line}")
 
 
 class Publisher:

@@ -53,7 +53,7 @@ def set_networks(known: Optional[Facts]) -> dict[int, int]:
 def setup_of(path: str, known: Optional[Facts], asked: Asked, channels: dict[int, int]) -> Setup:
     """What the setup record of a recording says of these channels and their network identifiers. It has the recording's
     name, so that the records of two differ."""
-    names = known.interfaces if known else {}
+    names = known.shown_names() if known else {}
     sources = {it: Source(names.get(it, NO_CHANNEL_NAME), net) for it, net in channels.items()}
     host, program = (known.host, known.program or USUAL_NAME) if known else (USUAL_NAME, USUAL_NAME)
     attributes = (*asked.attributes, f"G\\COM:{cleaned(os.path.basename(path))}")

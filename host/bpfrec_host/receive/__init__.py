@@ -1,1 +1,1 @@
-"""bpfrec-receive: what bpfrec-publish sends, as a file again."""
+"""bpfrec receive: what bpfrec publish sends, as a file again."""

@@ -1,4 +1,4 @@
-"""The command line of bpfrec-receive."""
+"""The command line of bpfrec receive."""
 
 from __future__ import annotations
 
@@ -12,9 +12,10 @@ from typing import Optional
 
 from bpfrec_host import printing
 from bpfrec_host.addresses import udp_address
-from bpfrec_host.arguments import Parser, full_name, natural, short_name
+from bpfrec_host.arguments import Parser, name_of
 from bpfrec_host.formats.ch11.packet import Header
 from bpfrec_host.formats.transfer import datagram_in
+from bpfrec_host.quantities import seconds
 from bpfrec_host.receive.assembling import Assembling
 from bpfrec_host.receive.listening import MAX_DATAGRAM_LEN, opened
 from bpfrec_host.receive.output import Files
@@ -23,16 +24,16 @@ from bpfrec_host.receive.window import Window
 from bpfrec_host.streams import Refused, Unreadable
 
 ABOUT = """\
-Writes what bpfrec-publish sends into a file: packets of Chapter 11, each once and in order.
+Writes what bpfrec publish sends into a file: packets of Chapter 11, each once and in order.
 
-  bpfrec-receive 239.1.2.3:50000 flight.ch10
+  bpfrec receive 239.1.2.3:50000 flight.ch10
 
 ADDRESS:PORT is an address of this machine, as 0.0.0.0:50000 or [::]:50000, or a multicast group, which is joined.
 OUT begins with the first setup record that comes, and what came ahead of it is behind it. Setup records that are repeated
 are left out. Of a further recording of a run a further file is made, as flight_00002.ch10. An OUT that exists is refused
 unless --force is given; `-` is standard output, which gets all recordings.
 
-OUT is a whole Chapter 11 file but for its index, which isn't sent: check_ch10 says so. Where nothing is missing it says
+OUT is a whole Chapter 11 file but for its index, which isn't sent: `bpfrec check` says so. Where nothing is missing it says
 else what was sent late alone, as the end of a channel that fell silent. bpfrec audit and bpfrec extract answer as for the
 recording.
 """
@@ -47,15 +48,14 @@ others. Nobody proves who sends: who can send here under the sender's address ca
 Status: 0 nothing is missing. 1 a datagram was lost or damaged, a stream broke off, or nothing came. 2 the arguments are
 wrong, 3 the address can't be had, or OUT can't be written or is taken, 4 out of memory.
 """
-MAX_SECONDS = 999_999_999
 # For how many seconds a datagram that is missing is waited for where no other comes, and what came is read at the end; how
 # many are read in a turn; and how many gaps have a line of their own.
 GAP_PATIENCE, LAST, A_TURN, MOST_LINES = 0.5, 2.0, 1_024, 100
 
 
 def parser() -> Parser:
-    """The arguments of bpfrec-receive."""
-    made = Parser(prog=full_name("receive"), description=ABOUT, epilog=MORE)
+    """The arguments of bpfrec receive."""
+    made = Parser(prog=name_of("receive"), description=ABOUT, epilog=MORE)
     made.add_argument("--interface", metavar="NAME", help="the interface on which a group is joined")
     made.add_argument("--for", metavar="SECONDS", dest="seconds", type=seconds, help="ends after this time")
     made.add_argument("--idle", metavar="SECONDS", type=seconds, help="ends when nothing has come for this time")
@@ -67,17 +67,9 @@ def parser() -> Parser:
     return made
 
 
-def seconds(word: str) -> int:
-    """The seconds that a word says."""
-    number = natural(word)
-    if not 1 <= number <= MAX_SECONDS:
-        raise argparse.ArgumentTypeError(f"needs seconds from 1 to {MAX_SECONDS}")
-    return number
-
-
 def err(line: str) -> None:
     """Prints what is wrong."""
-    printing.err(f"{short_name('receive')}: {line}")
+    printing.err(f"{name_of('receive')}: {line}")
 
 
 class Ending:

@@ -252,10 +252,11 @@ const CHAPTER11: &str = "\
 Writes a whole Chapter 11 file of a recording, by the standard as we know it: a setup record (TMATS),
 a time packet each second, the frames of all channels in packets of at most 100 ms, filters and ends by
 their counters, and an index. RECORDING is a regular file, which is read twice. SETUP is a TOML
-document, which host/bin/chapter11 makes of the facts beside a recording:
+document, which bpfrec export --print-setup makes of the facts beside a recording:
   origin = \"1764590400.25\"         seconds from 1970-01-01 UTC to counter 0, or, in its place,
   origins = [{ counter = 0, origin = \"1764590400.25\" }]
-                                   1 to 65536 of them, each from its counter on
+                                   1 to 65536 of them, each from its counter on; one in TAI
+                                   with scale = \"TAI\" and tai_offset = 37
   host = \"bpfrec\"                  the name of the recorder
   program = \"bpfrec\"               the name of the test
   external = false                 whether an outside source held the clock
@@ -280,10 +281,18 @@ that can't be read to its end, which is reported as by list, OUT is not created.
 reported on standard error:
   setup <number> <Name> [<key>]    Syntax, Unknown, Missing or Value
 
+In place of RECORDING, SETUP and OUT, --stream SETUP reads a recording on standard input as it grows, and
+writes its packets on standard output, each as soon as it can go, in the recording's order and without an
+index. Each [[channel]] that may come has to be in SETUP. At the end it prints on standard error
+  packets <n> records <n> times <n> late <n> other <n>
+with the numbers of packets of frames, of filters and ends, of time packets, of what came over a second
+late, and of packets of other kinds, which are left out; or why nothing more goes out.
+
 Exit status: 0 written; 1 refused, or not read to its end; 2 arguments, or SETUP; 3 a file; 4 no memory.
 
-Example:
-  bpfrec chapter11 flight.ch11 flight.toml flight.ch10";
+Examples:
+  bpfrec chapter11 flight.ch11 flight.toml flight.ch10
+  tail -c +1 -f flight.ch11 | bpfrec chapter11 --stream flight.toml > flight.ch10";
 
 const PRINT_VERSION: &str = "\
 Prints on standard output what --version prints too:

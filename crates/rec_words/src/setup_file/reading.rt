@@ -11,6 +11,7 @@ use super::attributes::attributes_in;
 use super::channels::channels_in;
 use super::fault::SetupFault;
 use super::origins::origins_in;
+use super::scales::unknown_scale;
 use crate::keys::{KeyFault, only, text_or, truth_or};
 use std::alloc::Global;
 use toml::Table;
@@ -20,7 +21,7 @@ use toml::Table;
 /// # Errors
 ///
 /// The first fault: that of the text as TOML; at the top a key that means nothing, then what is
-/// wrong with `origin`, `origins` and the other keys in the order of [`FileSettings`]; of a list of
+/// wrong with `scale`, `tai_offset`, `origin`, `origins` and the other keys in the order of [`FileSettings`]; of a list of
 /// tables first that it is one, then the same in each table. Where neither `origin` nor `origins`
 /// is set, `origin` is missing; where both are, the value of `origins` is wrong. So is that of an
 /// `id` that an earlier table has.
@@ -46,6 +47,8 @@ fn file_in(alloc: Global, table: &Table) -> Result<FileSettings, KeyFault>
         alloc,
         table,
         &[
+            "scale",
+            "tai_offset",
             "origin",
             "origins",
             "host",
@@ -55,8 +58,9 @@ fn file_in(alloc: Global, table: &Table) -> Result<FileSettings, KeyFault>
             "channel",
         ],
     )?;
+    let unknown = unknown_scale(table)?;
     Ok(FileSettings {
-        origins: origins_in(alloc, table)?,
+        origins: origins_in(alloc, table, unknown)?,
         host: text_or(alloc, table, "host", "bpfrec")?,
         program: text_or(alloc, table, "program", "bpfrec")?,
         is_external: truth_or(table, "external", false)?,

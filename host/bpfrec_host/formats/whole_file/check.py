@@ -48,7 +48,7 @@ class Check:
         self.tell = tell
         self.show: Callable[[Packet, list[Frame], Clock], None] = lambda *_: None
         self.setup: Optional[Setup] = None
-        self.setup_counter = 0
+        self.setup_counter, self.setup_data = 0, b""
         self.order, self.index = Order(), Index(most_named)
         self.channels: dict[int, Total] = {}
         self.packets = self.times = self.records = self.indexes = self.sums = self.wrong = 0
@@ -68,8 +68,9 @@ class Check:
         except Unread as fault:
             self.report(at, str(fault))
         self.report_all(self.order.end())
-        for line in self.index.end():
-            self.report(last, line)
+        if not self.order.is_stream:
+            for line in self.index.end():
+                self.report(last, line)
 
     def report(self, at: int, fault: str) -> None:
         """Something is wrong with the packet at a place."""
@@ -97,11 +98,15 @@ class Check:
     def contents_faults(self, packet: Packet, greatest: int) -> Faults:
         """What is wrong with what a packet holds, behind headers whose greatest counter this is."""
         kind, channel = packet.kind, packet.channel
+        if is_index(packet) and self.order.is_stream:
+            yield "an index packet in a stream"
+            return
         if is_index(packet):
             self.indexes += 1
             yield from self.index.take_index(packet, greatest)
             return
-        yield from self.index.take(packet)
+        if not self.order.is_stream:
+            yield from self.index.take(packet)
         if channel == OWN_CHANNEL and kind == SETUP:
             yield from self.take_setup(packet)
         elif channel == OWN_CHANNEL and kind == RECORD:
@@ -114,12 +119,18 @@ class Check:
             yield from self.take_frames(packet)
 
     def take_setup(self, packet: Packet) -> Faults:
-        """Takes the setup record."""
+        """Takes the setup record, which a stream repeats."""
+        if packet.at and self.order.is_stream:
+            if packet.data != self.setup_data:
+                yield "a setup record of another text"
+            return
         if packet.at:
             yield "a setup record within the file"
             return
+        self.setup_data = packet.data
         self.setup_counter = packet.counter
         self.setup = Setup(packet.data)
+        self.order.is_stream = self.setup.is_stream()
         yield from setup_faults(self.setup)
 
     def take_record(self, packet: Packet, greatest: int) -> Faults:

@@ -62,6 +62,9 @@ class Order:
 
     def __init__(self) -> None:
         self.count = 0
+        # Whether the packets are those of a stream: in the order in which they were recorded, with late ones, and of the
+        # time packets between two of them the last alone.
+        self.is_stream = False
         # The greatest counter of a header, and of a frame or of a header that is no time packet's; the least of all
         # that have one by themselves.
         self.greatest, self.latest = 0, -1
@@ -87,9 +90,9 @@ class Order:
             yield f"sequence number {packet.sequence} of channel {packet.channel}, and {sequence} comes next"
         if self.count < 2 and packet.kind != (SETUP, TIME)[self.count]:
             yield "a file begins with its setup record and a time packet"
-        if packet.counter < self.greatest - MOST_BEHIND:
+        if not self.is_stream and packet.counter < self.greatest - MOST_BEHIND:
             yield "the counter lies over a second behind an earlier one"
-        if packet.kind != TIME:
+        if packet.kind not in (TIME, SETUP):
             yield from self.take_distance(packet)
         self.count += 1
         self.greatest = max(self.greatest, packet.counter)
@@ -127,7 +130,7 @@ class Order:
             yield Placed(at, "the time packet stands behind a frame or a record of its time")
         is_next = clock.zero() == before.zero() and clock.hundredths == before.next_second()
         second = before.next_second() * TICKS_A_HUNDREDTH - before.zero()
-        if not is_next and clock.counter > second + FIRST_MOMENT:
+        if not is_next and not self.is_stream and clock.counter > second + FIRST_MOMENT:
             yield Placed(at, "a time packet is missing ahead of it")
         yield from self.late_faults(is_next)
 
@@ -145,7 +148,7 @@ class Order:
         if not turn.is_without:
             self.least = turn.counter if self.least is None else min(self.least, turn.counter)
             self.latest = max(self.latest, last)
-        if not self.turns.take(turn):
+        if not self.is_stream and not self.turns.take(turn):
             yield "a packet ahead of it had to stand behind it"
 
     def end(self) -> Iterator[Placed]:

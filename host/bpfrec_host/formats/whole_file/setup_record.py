@@ -95,6 +95,10 @@ class Setup:
         """Whether an outside source held the clock."""
         return self.values.get("R-1\\TSRC-1") == "E"
 
+    def is_stream(self) -> bool:
+        """Whether no index follows: the packets went out while the recording grew."""
+        return self.values.get("R-1\\IDX\\E") == "F"
+
     def kind_of(self, channel: int) -> Optional[int]:
         """The type of a channel's packets; None where the record has no such channel."""
         found = self.channels.get(channel)
@@ -175,8 +179,11 @@ def lines_due(setup: Setup) -> Iterator[Due]:
     yield from (Due("G\\DSI-1", NAME), Due("G\\DST-1", "STO"), Due("R-1\\ID", host), Due("R-1\\RID", "bpfrec"))
     yield from (Due("R-1\\R1", NAME), Due("R-1\\TC1", "SSR"), Due("R-1\\RI3", "Y"))
     yield from (Due("R-1\\RI4", re.compile(re.escape(date) + TIME_OF_DAY)), Due("R-1\\NSB", "0"))
-    yield from (Due("R-1\\IDX\\E", "T"), Due("R-1\\IDX\\IT", "C"), Due("R-1\\IDX\\ICV", "1"), Due("R-1\\EV\\E", "F"))
-    yield Due("R-1\\N", str(setup.count))
+    if setup.is_stream():
+        yield Due("R-1\\IDX\\E", "F")
+    else:
+        yield from (Due("R-1\\IDX\\E", "T"), Due("R-1\\IDX\\IT", "C"), Due("R-1\\IDX\\ICV", "1"))
+    yield from (Due("R-1\\EV\\E", "F"), Due("R-1\\N", str(setup.count)))
     for number, (channel, has) in enumerate(setup.channels.items(), 1):
         yield from of_time(channel) if number == 1 else of_frames(number, channel, has)
     yield Due("R-1\\COM", COMMENT)

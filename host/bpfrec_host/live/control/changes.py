@@ -7,10 +7,11 @@ import re
 from pathlib import Path
 from typing import Callable, NamedTuple, Optional
 
+from bpfrec_host.arguments import nearest
 from bpfrec_host.live.control.asking import Asker, answer
 from bpfrec_host.live.control.line_buffer import READ_LEN, LineBuffer
 from bpfrec_host.live.control.made_filters import MadeFilter
-from bpfrec_host.live.control.words import word_of
+from bpfrec_host.live.control.words import LINES, word_of
 from bpfrec_host.live.expressions import is_in_words, name_of
 from bpfrec_host.live.folder import Folder, copy_listing
 from bpfrec_host.live.standard_streams import another
@@ -20,6 +21,10 @@ MAX_LINE_LEN = 1 << 20
 # So much may wait for the recorder until no further line is read.
 MAX_WAITING = 1 << 16
 SET = re.compile(rb"set ([0-9]{1,9}) (.+)", re.DOTALL)
+# The same with a name in place of the ID, in quotes where it has blanks.
+NAMED = re.compile(rb'set (?:"([^"]+)"|([^\s"]+)) (.+)', re.DOTALL)
+# So many lines of a terminal are read before any is taken.
+MOST_READS = 64
 # Makes the listing of a filter in words, in this file.
 Make = Callable[[str, Path], MadeFilter]
 
@@ -36,12 +41,17 @@ class Input:
 
     def read(self) -> None:
         """Reads what came. Where no more will come there is no descriptor any more."""
-        if self.descriptor is None:
-            return
+        # A terminal gives a line at a time, and has shown all that were typed or pasted.
+        for _ in range(MOST_READS if self.descriptor is not None and os.isatty(self.descriptor) else 1):
+            if self.descriptor is None or not self.read_part(self.descriptor):
+                return
+
+    def read_part(self, descriptor: int) -> bool:
+        """Reads what is there: whether there was anything."""
         try:
-            part = os.read(self.descriptor, READ_LEN)
+            part = os.read(descriptor, READ_LEN)
         except BlockingIOError:
-            return
+            return False
         except OSError:
             part = b""
         self.buffer.put(part)
@@ -49,6 +59,7 @@ class Input:
             self.buffer.end_line()
         if not part:
             self.descriptor = None
+        return bool(part)
 
 
 def is_foreground() -> bool:
@@ -109,7 +120,7 @@ class Pipe:
     def forget(self) -> None:
         """No line is answered any more: says so to who asked."""
         for change in self.unanswered:
-            answer(change.asker, "live: the recording ended ahead of an answer", False)
+            answer(change.asker, "bpfrec live: the recording ended ahead of an answer", False)
         self.unanswered.clear()
 
     def close(self) -> None:
@@ -134,7 +145,7 @@ class Held:
 
     def fault(self) -> Optional[str]:
         """What is wrong with it, once that is known."""
-        return f"live: {os.fsdecode(self.line)}: {self.made.fault}" if self.made and self.made.fault else None
+        return f"bpfrec live: {os.fsdecode(self.line)}: {self.made.fault}" if self.made and self.made.fault else None
 
     def asked(self) -> tuple[bytes, Change]:
         """The line for the recorder."""
@@ -155,8 +166,29 @@ class Changes:
     def __init__(self, folder: Folder, keeps: bool, make: Make) -> None:
         self.folder, self.keeps, self.make, self.count = folder, keeps, make, 0
 
+    def by_id(self, line: bytes) -> bytes:
+        """A line that names its channel by its name or its interface, with the ID in its place."""
+        found = NAMED.fullmatch(line)
+        names = {os.fsencode(it.interface): it.channel for it in self.folder.routes}
+        names |= {os.fsencode(name): channel for channel, name in self.folder.names.items()}
+        channel = names.get(found[1] or found[2]) if found else None
+        return b"set %d %s" % (channel, found[3]) if found and channel is not None else line
+
+    def why_refused(self, line: bytes) -> Optional[str]:
+        """What is wrong with a line of which that is known by now."""
+        words = os.fsdecode(self.by_id(line)).split(None, 2)
+        if not words or word_of(line):
+            return None
+        if words[0] != "set":
+            return f"no line {words[0]}, and help has all{nearest(words[0], LINES)}"
+        known = [str(it.table.get("id")) for it in self.folder.settings.channels]
+        if len(words) < 3:
+            return "it needs a channel and a filter, as set 7 udp port 5004"
+        return None if words[1] in known else f"no channel {words[1]}: {', '.join(known)}"
+
     def held(self, line: bytes, asker: Asker = None) -> Held:
         """A line as it waits for the recorder."""
+        line = self.by_id(line)
         found = SET.fullmatch(line)
         if not found:
             return Held(line, Change(0, None, asker=asker))

@@ -17,6 +17,10 @@ help                prints these lines"""
 MARK = re.compile(rb"\s*mark(?:\s(.*))?", re.DOTALL)
 
 
+# What lines begin with.
+LINES = ("set", "mark", "status", "next", "stop", "help")
+
+
 class Word(enum.Enum):
     """A line that is a word alone."""
 

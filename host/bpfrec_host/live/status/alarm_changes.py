@@ -19,7 +19,7 @@ class AlarmChange(NamedTuple):
 
     def line(self) -> str:
         """The line of it."""
-        return f"live: {self.alarm.level}{'' if self.has_begun else ' ended'}: {self.alarm.text}"
+        return f"bpfrec live: {self.alarm.level}{'' if self.has_begun else ' ended'}: {self.alarm.text}"
 
 
 class AlarmChanges:

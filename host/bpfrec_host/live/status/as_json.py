@@ -14,6 +14,10 @@ from bpfrec_host.live.status.view import ChannelView, MarkView, Second, View
 FORM = 1
 
 
+# Over so many seconds frames that came and those that were kept are compared.
+RATE_SECONDS = 10
+
+
 def text_of(view: View, alarms: tuple[Alarm, ...]) -> str:
     """The object as a text in ASCII, but for its first brace and its age, which is that of the answer."""
     return json.dumps(object_of(view, alarms), separators=(",", ":"), allow_nan=False)[1:]
@@ -55,7 +59,6 @@ def object_of(view: View, alarms: tuple[Alarm, ...]) -> dict[str, Any]:
 def channel_object(channel: ChannelView, alarms: tuple[Alarm, ...]) -> dict[str, Any]:
     """What the object has of a channel."""
     mine = [alarm for alarm in alarms if alarm.channel == channel.channel]
-    last = channel.history[-1] if channel.history else None
     return {
         "channel": channel.channel,
         "interface": None if channel.interface is None else printable(channel.interface),
@@ -64,7 +67,8 @@ def channel_object(channel: ChannelView, alarms: tuple[Alarm, ...]) -> dict[str,
         "version": channel.version,
         "filter": printable(channel.filter.name),
         "changes": channel.filter.changes,
-        "offered": channel.counts and amounts(channel.counts.frames, channel.counts.bytes, last and last[:2]),
+        "offered": channel.counts
+        and amounts(channel.counts.frames, channel.counts.bytes, offered_rates(channel.history)),
         "kept": amounts(channel.kept_frames, channel.kept_bytes, kept_rates(channel.history)),
         "dropped": channel.counts and channel.counts.dropped,
         "missed": channel.counts and channel.counts.missed,
@@ -99,12 +103,21 @@ def amounts(frames: int, size: int, rates: Optional[tuple[Optional[float], ...]]
     }
 
 
-def kept_rates(history: tuple[Second, ...]) -> Optional[tuple[float, float]]:
-    """Kept frames and bytes a second, as the mean of the last minute: they come packet by packet."""
-    if not history:
+def offered_rates(history: tuple[Second, ...]) -> Optional[tuple[float, float]]:
+    """Frames and bytes that came a second, as the mean of the last ten seconds; None where the last isn't known."""
+    last = history[-RATE_SECONDS:]
+    known = [(it.offered_frames, it.offered_bytes) for it in last if it.offered_frames is not None]
+    if not last or last[-1].offered_frames is None:
         return None
-    frames, size = sum(it.kept_frames for it in history), sum(it.kept_bytes for it in history)
-    return frames / len(history), size / len(history)
+    return sum(frames for frames, _ in known) / len(known), sum(size or 0 for _, size in known) / len(known)
+
+
+def kept_rates(history: tuple[Second, ...]) -> Optional[tuple[float, float]]:
+    """The same of what was kept, which comes packet by packet."""
+    last = history[-RATE_SECONDS:]
+    if not last:
+        return None
+    return sum(it.kept_frames for it in last) / len(last), sum(it.kept_bytes for it in last) / len(last)
 
 
 def column(history: tuple[Second, ...], at: int) -> list[Any]:

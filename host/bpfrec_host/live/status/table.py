@@ -7,8 +7,8 @@ from collections.abc import Iterator
 from typing import NamedTuple, Optional
 
 from bpfrec_host.live.status.alarms import ALARM, Alarm, duration, level_of, plural, size
-from bpfrec_host.live.status.as_json import kept_rates
-from bpfrec_host.live.status.view import ChannelView, View, current, lost
+from bpfrec_host.live.status.as_json import kept_rates, offered_rates
+from bpfrec_host.live.status.view import ChannelView, View, lost
 
 # The colours of a line, and what ends them: of alarms white on red, of warnings black on yellow.
 COLOURS = {"alarm": "\x1b[97;41m", "warning": "\x1b[30;43m", "ok": ""}
@@ -102,14 +102,14 @@ def shown(channels: tuple[ChannelView, ...], alarms: tuple[Alarm, ...], room: in
 
 def row(channel: ChannelView, alarms: tuple[Alarm, ...], width: Optional[int] = None) -> Line:
     """A channel, for a line of so many columns; without them, with its whole filter and no bar."""
-    last, kept = current(channel), kept_rates(channel.history)
+    came, kept = offered_rates(channel.history), kept_rates(channel.history)
     name = cut(printable(channel.interface or "(a feed)"), NAME_WIDTH)
     words = ", ".join(alarm.word for alarm in alarms if alarm.channel == channel.channel)
     said = words.upper() or ("ended" if channel.has_ended else "")
     whole_state = f"{said} {channel.filter.name}".strip()
     columns = [
         f"{channel.channel:>5} {padded(name, NAME_WIDTH)}",
-        f"{rate(last.offered_frames if last else None):>8}",
+        f"{rate(came[0] if came else None):>8}",
         f"{rate(kept[0] if kept else None):>8}",
         f"{'-' if channel.counts is None else format(lost(channel.counts), ','):>7}",
         f"{channel.filter.changes:>7}",

@@ -177,11 +177,6 @@ class View(NamedTuple):
     unhashed: str = ""
 
 
-def current(channel: ChannelView) -> Optional[Second]:
-    """The last second of a channel; None before there was one."""
-    return channel.history[-1] if channel.history else None
-
-
 def lost(counts: Counts) -> int:
     """How many frames of an interface were lost, in whatever route."""
     return counts.dropped + counts.missed + counts.skipped

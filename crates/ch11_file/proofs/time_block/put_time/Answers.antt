@@ -5,12 +5,12 @@ use Rattle.ch11_file.specs.FileBlocks.BlockContent.{TimeBlock}
 use Rattle.ch11_file.specs.WholeFile.{merge_state}
 use Rattle.ch11_file.specs.WholeFile.FileStage.{Merging}
 use Rattle.ch11_file.specs.declared.setup.FileSetup.{FileSetup}
-use Rattle.ch11_file.proofs.GoingOut.{whole_sent}
-use Rattle.ch11_file.proofs.NextBlocks.{time_goes}
+use Rattle.ch11_file.proofs.NextBlocks.{no_gap_due, pieces_fail, time_goes}
 use Rattle.ch11_file.proofs.time_block.put_time.Goals as goal
 
 pub returns-in_default-clause-put : goal.returns-in_default-clause-put
-returns-in_default-clause-put g c = λ facts before stage left same walks sent due. whole_sent facts before _ c.args.sent.now _ sent
+returns-in_default-clause-put g c = λ facts before stage left same walks sent due.
+    pieces_fail facts before _ c.args.sent.now _ sent (no_gap_due c.args.sent.now.index.greatest _ stage left due)
 
 pub returns-in-Err-clause-put : goal.returns-in-Err-clause-put
 returns-in-Err-clause-put g c = λ facts before stage left same walks sent due.

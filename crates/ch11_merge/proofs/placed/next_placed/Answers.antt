@@ -1,13 +1,12 @@
-use Rattle.std.proofs.Common.{refl, sym, ◌∙◌, ap, subst, ◌≡◌, List, All, Some}
+use Rattle.std.proofs.Common.{refl, sym, ◌∙◌, ap, subst, ◌≡◌, List, All}
 use Rattle.std.specs.Prelude.{slice_set}
 use Rattle.std.specs.BinaryHeap.{heap_items}
-use Rattle.std.proofs.lemmas.Option.{slice_get-get_or}
 use Rattle.ch11_merge.specs.Merging.{is_due}
 use Rattle.ch11_merge.specs.Placing.{SayLeft}
 use Rattle.ch11_merge.specs.declared.channels.MergedChannel.{MergedChannel}
 use Rattle.ch11_merge.specs.declared.source.Head.TheVariants.{End}
 use Rattle.ch11_merge.proofs.Places.{set_same}
-use Rattle.ch11_merge.proofs.Answering.{nothing_left, next_said_there, time_next, piece_next, least_there_stands}
+use Rattle.ch11_merge.proofs.Answering.{nothing_left, next_said_there, stands_there, time_next, piece_next, least_there_stands}
 use Rattle.ch11_merge.proofs.Stands.{stands_again}
 use Rattle.ch11_merge.proofs.placed.next_placed.Goals as goal
 
@@ -31,7 +30,7 @@ returns-then-is_due g c = λ old said.
     let first = c.index_mut-first.result.now in
     let is = c.index_mut-first.ensures.value in
     let kept : slice_set items c.in-Some.at first ≡ items = ap (λ d. slice_set items c.in-Some.at d) is ∙ set_same items c.in-Some.at first in
-    let there = slice_get-get_or items c.in-Some.at first (rw (← c.as_slice.ensures.value) c.in-Some.ensures.within) ∙ ap Some (sym is) in
+    let there = stands_there items _ c.in-Some.at first c.as_slice.ensures.value c.in-Some.ensures.within is in
     let n = next_said_there left stands items old c.in-Some.at first g.met.S.PieceSource.stands_first (rw c.channels.view_is said)
     (rw (← c.as_slice.ensures.value) c.in-Some.ensures.least) there in (
       old,
@@ -48,8 +47,7 @@ pub take-taken-requires : goal.take-taken-requires
 take-taken-requires g c =
     let items = c.channels.inside.channels.items in
     let first = c.index_mut-first.result.now in
-    let there = slice_get-get_or items c.in-Some.at first (rw (← c.as_slice.ensures.value) c.in-Some.ensures.within)
-    ∙ ap Some (sym c.index_mut-first.ensures.value) in
+    let there = stands_there items _ c.in-Some.at first c.as_slice.ensures.value c.in-Some.ensures.within c.index_mut-first.ensures.value in
     record {
       some = least_there_stands g.S.PieceSource.stands items c.in-Some.at first (rw (← c.as_slice.ensures.value) c.in-Some.ensures.least) there;
       early = ap (is_due c.args.tick) (sym c.head.ensures) ∙ (sym c.is_due.ensures ∙ c.if-is_due.false);
@@ -59,8 +57,7 @@ pub invariant_of-channels-in_err-piece : goal.invariant_of-channels-in_err-piece
 invariant_of-channels-in_err-piece g c =
     let items = c.channels.inside.channels.items in
     let first = c.index_mut-first.result.now in
-    let there = slice_get-get_or items c.in-Some.at first (rw (← c.as_slice.ensures.value) c.in-Some.ensures.within)
-    ∙ ap Some (sym c.index_mut-first.ensures.value) in
+    let there = stands_there items _ c.in-Some.at first c.as_slice.ensures.value c.in-Some.ensures.within c.index_mut-first.ensures.value in
     stands_again g.S.PieceSource.stands items (heap_items c.channels.inside.waiting) (heap_items c.stand_again.new.waiting) c.in-Some.at c.head-head.result
     (record { channel = first.channel; source = c.take-taken.new.self }) first c.channels.invariant c.in-Some.ensures.first c.stand_again.ensures there
     c.head-head.ensures refl
@@ -69,8 +66,7 @@ pub invariant_of-channels-2 : goal.invariant_of-channels-2
 invariant_of-channels-2 g c =
     let items = c.channels.inside.channels.items in
     let first = c.index_mut-first.result.now in
-    let there = slice_get-get_or items c.in-Some.at first (rw (← c.as_slice.ensures.value) c.in-Some.ensures.within)
-    ∙ ap Some (sym c.index_mut-first.ensures.value) in
+    let there = stands_there items _ c.in-Some.at first c.as_slice.ensures.value c.in-Some.ensures.within c.index_mut-first.ensures.value in
     stands_again g.S.PieceSource.stands items (heap_items c.channels.inside.waiting) (heap_items c.stand_again.new.waiting) c.in-Some.at c.head-head.result
     (record { channel = first.channel; source = c.take-taken.new.self }) first c.channels.invariant c.in-Some.ensures.first c.stand_again.ensures there
     c.head-head.ensures refl
@@ -81,8 +77,7 @@ returns g c = λ old said.
     let stands = g.S.PieceSource.stands in
     let items = c.channels.inside.channels.items in
     let first = c.index_mut-first.result.now in
-    let there = slice_get-get_or items c.in-Some.at first (rw (← c.as_slice.ensures.value) c.in-Some.ensures.within)
-    ∙ ap Some (sym c.index_mut-first.ensures.value) in
+    let there = stands_there items _ c.in-Some.at first c.as_slice.ensures.value c.in-Some.ensures.within c.index_mut-first.ensures.value in
     let said_items : SayLeft left items old = rw c.channels.view_is said in
     piece_next left stands items old c.in-Some.at c.args.tick first (record { channel = first.channel; source = c.take-taken.new.self }) _ said_items
     (next_said_there left stands items old c.in-Some.at first g.met.S.PieceSource.stands_first said_items

@@ -1,4 +1,4 @@
-use Rattle.std.proofs.Common.{◌≡◌, ◌<◌, ◌^◌, None, length, sym, subst}
+use Rattle.std.proofs.Common.{◌≡◌, ◌<◌, ◌^◌, None, length, sym, subst, ◌∙◌}
 use Rattle.rec_pieces.specs.Listings.{other_of}
 use Rattle.rec_pieces.specs.PieceListings.{is_named, listed_channels, named_channels}
 use Rattle.rec_whole.specs.NamedChannels.{AreNamed, IsLeastFree}
@@ -12,7 +12,9 @@ write_with_setup-requires-clause-number g c =
     subst (λ channels. length channels < 2 ^ 16) (sym c.file_setup-setup.ensures.channels)
     (few_named c.args.listing.now c.in-Some-time_channel.time_channel c.args.names.now.channels.now c.as_slice.result.now
     c.in-Some-time_channel.ensures
-    (subst (AreNamed c.args.names.now.channels.now (listed_channels c.args.listing.now)) (sym c.as_slice.ensures.value) c.in_ok-channels.ensures))
+    (subst (AreNamed c.args.names.now.channels.now (listed_channels c.args.listing.now)) (sym c.as_slice.ensures.value)
+    (subst (λ ids. AreNamed c.args.names.now.channels.now ids c.in_ok-channels.channels.items) (c.deref.ensures.value ∙ c.in_ok-ids.ensures)
+    c.in_ok-channels.ensures)))
 
 pub returns : goal.returns
 returns g c = λ recording packets is reads had. (
@@ -21,9 +23,12 @@ returns g c = λ recording packets is reads had. (
     let setup = c.file_setup-setup.result in
     let free = free_of_packets packets c.args.listing.now c.in-Some-time_channel.time_channel had c.in-Some-time_channel.ensures in
     let are = named_of_packets packets c.args.listing.now names.channels.now c.as_slice.result.now had
-    (subst (AreNamed names.channels.now (listed_channels c.args.listing.now)) (sym c.as_slice.ensures.value) c.in_ok-channels.ensures) in
+    (subst (AreNamed names.channels.now (listed_channels c.args.listing.now)) (sym c.as_slice.ensures.value)
+    (subst (λ ids. AreNamed names.channels.now ids c.in_ok-channels.channels.items) (c.deref.ensures.value ∙ c.in_ok-ids.ensures)
+    c.in_ok-channels.ensures)) in
     let is_setup : IsSetupOf packets names setup = record {
       said = c.file_setup-setup.ensures.names;
+      indexed = c.file_setup-setup.ensures.indexed;
       time_channel = subst (IsLeastFree (is_named packets)) (sym c.file_setup-setup.ensures.time_channel) free;
       channels = subst (AreNamed names.channels.now (named_channels packets)) (sym c.file_setup-setup.ensures.channels) are;
     } in

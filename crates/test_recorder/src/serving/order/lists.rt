@@ -171,7 +171,7 @@ const CHANGE_EDITS: [Edit<'static>; 7] = [
 ];
 
 /// Channels with rings of this size; the second one may have no frame.
-fn settings(ring: usize) -> Settings {
+fn settings(ring: u32) -> Settings {
     let first = Setting {
         ring,
         most: 100,
@@ -221,7 +221,7 @@ fn each_note_of_a_recording_is_needed(rt: HostRuntime) -> Result<(), Fail> {
 /// source is asked for two frames more than that, and for the next one once the program is written.
 #[test]
 fn a_full_ring_stops_its_worker(rt: HostRuntime) -> Result<(), Fail> {
-    for ring in 1..=4usize {
+    for ring in 1..=4u32 {
         let mut list = Vec::new(rt.alloc());
         for _ in 0..ring.saturating_add(2) {
             list.extend_from_slice(&[Asked(0), Gave(0)])?;

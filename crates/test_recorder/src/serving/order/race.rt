@@ -116,7 +116,7 @@ impl Race {
     fn setting(&self, at: usize) -> Setting {
         let most = self.most.get(at).copied().unwrap_or(0);
         Setting {
-            ring: self.ring,
+            ring: u32::try_from(self.ring).unwrap_or(u32::MAX),
             most: u32::try_from(most).unwrap_or(u32::MAX),
             keeps: self.keeps.get(at).copied().unwrap_or(false),
         }

@@ -10,11 +10,11 @@ new-body-requires c =
     let some = some_held b.count b.bytes.items (λ e. c.requires (sym c.self.view_is ∙ e)) in
     (seals b.count b.bytes.items _ c.self.invariant some (rw c.to_le_bytes.ensures (search rules))).is_sealed
 
-pub returns-clause-frames : goal.returns-clause-frames
-returns-clause-frames c =
+pub returns : goal.returns
+returns c =
     let b = c.self.inside in
     let some = some_held b.count b.bytes.items (λ e. c.requires (sym c.self.view_is ∙ e)) in
     let bytes = slice_set (slice_set b.bytes.items 0 (b.count % 256)) 1 (b.count / 256 % 256) in
     let sealed = seals b.count b.bytes.items bytes c.self.invariant some refl in
     let made = rw c.to_le_bytes.ensures at c.new-body.ensures in
-    ap OfFrames (made ∙ sealed.frames ∙ c.self.view_is)
+    ap (OfFrames c.args.place) (made ∙ sealed.frames ∙ c.self.view_is)

@@ -5,8 +5,8 @@ use Rattle.ch11_file.proofs.OpenPieces.{sealed_first, sealed_long}
 use Rattle.ch11_file.proofs.owned.FramesBody.counter.Goals as goal
 
 pub returns-clause-first : goal.returns-clause-first
-returns-clause-first c =
-    sealed_first _ _ _ c.self.invariant c.self.view_is
+returns-clause-first c = λ place.
+    sealed_first place _ _ _ c.self.invariant c.self.view_is
     ∙ ap (λ (l : List ℕ). At (u48_at l 4)) (sym c.as_slice.ensures.value) ∙ ap (λ n. At n) (sym c.counter_of.ensures.value)
 
 pub unreachable-requires : goal.unreachable-requires

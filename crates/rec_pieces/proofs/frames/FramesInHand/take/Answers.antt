@@ -9,7 +9,7 @@ use Rattle.rec_pieces.proofs.HandPieces.{to_end, some_left, part_in_hand}
 use Rattle.rec_pieces.proofs.frames.FramesInHand.take.Goals as goal
 
 pub take_part-requires-clause-some : goal.take_part-requires-clause-some
-take_part-requires-clause-some c = some_left _ _ _ _ (λ none. c.requires.some (sym c.self.view_is ∙ none))
+take_part-requires-clause-some c = some_left _ _ _ _ _ (λ none. c.requires.some (sym c.self.view_is ∙ none))
 
 pub returns : goal.returns
 returns c =
@@ -18,8 +18,9 @@ returns c =
     let held = data_in f.packet.header f.packet.body in
     let same = c.data-data.ensures ∙ ap (λ (p : PacketData). data_in p.header p.body) c.packet-packet.ensures.same in
     let early = ap (λ (ps : List FilePiece). is_due c.args.tick (head_of ps)) c.self.view_is ∙ c.requires.early in
-    subst (λ n. TakesPart c.args.tick c.args.self.now (owned_data part.piece) (pieces_in_hand part.ahead part.count (n - part.len) held)) (sym (ap length same))
-    (subst (λ ps. TakesPart c.args.tick ps (owned_data part.piece) (pieces_in_hand part.ahead part.count (length held - part.len) held)) c.self.view_is
-    (part_in_hand c.args.tick f.ahead f.count f.at held part c.self.invariant.within early
-    (subst (λ bytes. IsPartTaken c.args.tick f.ahead f.count (drop f.at bytes) part) same
-    (subst (λ bytes. IsPartTaken c.args.tick f.ahead f.count bytes part) (to_end c.data-data.result.now f.at) c.in_ok-part.ensures.part))))
+    subst (λ n. TakesPart c.args.tick c.args.self.now (owned_data part.piece) (pieces_in_hand f.place part.ahead part.count (n - part.len) held))
+    (sym (ap length same))
+    (subst (λ ps. TakesPart c.args.tick ps (owned_data part.piece) (pieces_in_hand f.place part.ahead part.count (length held - part.len) held)) c.self.view_is
+    (part_in_hand c.args.tick f.place f.ahead f.count f.at held part c.self.invariant.within early
+    (subst (λ bytes. IsPartTaken c.args.tick f.place f.ahead f.count (drop f.at bytes) part) same
+    (subst (λ bytes. IsPartTaken c.args.tick f.place f.ahead f.count bytes part) (to_end c.data-data.result.now f.at) c.in_ok-part.ensures.part))))

@@ -11,5 +11,5 @@ returns-in_default c = λ packets had.
 pub returns : goal.returns
 returns c = on_ok c.add_entry.result (λ adds. λ packets had.
     lists_named packets (packet_data c.args.packet.now) c.args.self.now c.add_entry.new.channels c.lesser-self.result c.in-Some.channel c.in-Some.kind _
-    (sym c.names.ensures ∙ c.in-Some.is) refl (c.lesser-self.ensures ∙ ap (lesser c.args.self.now.least) c.least_counter.ensures) adds had)
+    (sym c.names.ensures ∙ c.in-Some.is) refl (c.lesser-self.ensures ∙ ap (lesser c.args.self.now.least) c.least_counter.ensures.is) adds had)
     c.add_entry.ensures

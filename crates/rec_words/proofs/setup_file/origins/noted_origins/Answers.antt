@@ -12,8 +12,8 @@ returns-then-is_empty-clause-found c =
     let as_many = tables_length values tables.0 tables.1 in
     let none : c.is_empty.result ≡ true → length values ≡ 0 = λ e. grind (arith, c.is_empty.ensures, e) in
     elim c.then-is_empty.either [
-      | inl empty ↦ no_origins (view c.args.value.now) tables.0 (length values) tables.2 as_many (none empty)
-      | inr many ↦ too_many_origins (view c.args.value.now) tables.0 (length values) tables.2 as_many many.1
+      | inl empty ↦ no_origins c.args.unknown (view c.args.value.now) tables.0 (length values) tables.2 as_many (none empty)
+      | inr many ↦ too_many_origins c.args.unknown (view c.args.value.now) tables.0 (length values) tables.2 as_many many.1
     ]
 
 pub returns-clause-found : goal.returns-clause-found
@@ -22,5 +22,5 @@ returns-clause-found c =
     let tables = c.in_ok-values.ensures in
     let as_many = tables_length values tables.0 tables.1 in
     let some : 0 < length values = grind (arith, c.is_empty.ensures, c.if-is_empty.false) in
-    rw (origins_of_tables (view c.args.value.now) tables.0 (length values) tables.2 as_many some c.if-values-gt-MAX_ORIGINS.false)
+    rw (origins_of_tables c.args.unknown (view c.args.value.now) tables.0 (length values) tables.2 as_many some c.if-values-gt-MAX_ORIGINS.false)
     (c.origins_of.ensures.found tables.0 tables.1)

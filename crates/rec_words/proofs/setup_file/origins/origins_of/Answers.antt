@@ -16,7 +16,7 @@ values-preserved c tables h =
     elim c.match-as_table.branch [
       | in-Some+in_ok-origin_in+in_ok-push w ↦ (
         rw (w.origins-is, w.in_ok-push.ensures.items, map-append origin_data c.values.origins.items (w.in_ok-origin_in.field-0 ∷ []))
-            (left_more (λ _ members. origin_in members) tables before c.args.values.now c.values.value-index c.value-item.result
+            (left_more (λ _ members. origin_in c.args.unknown members) tables before c.args.values.now c.values.value-index c.value-item.result
             (table_view w.in-Some.table.now) (origin_data w.in_ok-origin_in.field-0) c.values-test.true c.value-item.is
             (rw w.in-Some.is at c.as_table.ensures) w.in_ok-origin_in.ensures left.0),
         rw (w.origins-is, w.in_ok-push.ensures.items) (length_more c.values.origins.items w.in_ok-origin_in.field-0 c.values.value-index left.1),

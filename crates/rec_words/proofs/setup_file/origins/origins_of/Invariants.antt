@@ -11,5 +11,5 @@ use Rattle.rec_words.proofs.setup_file.origins.origins_of.Given as goal
 abbrev pub invariant-values : goal.invariant-values
 invariant-values l =
     (tables : List Members) → tables_in (items_view l.values) ≡ Some tables
-    → IsLeft (λ _ members. origin_in members) tables (map origin_data l.origins.items) (drop l.value-index l.values)
+    → IsLeft (λ _ members. origin_in l.unknown members) tables (map origin_data l.origins.items) (drop l.value-index l.values)
     × (length l.origins.items ≡ l.value-index)

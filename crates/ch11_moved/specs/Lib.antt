@@ -1,0 +1,2 @@
+pub mod MovedCounters
+pub mod FileStarts

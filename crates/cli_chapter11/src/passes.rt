@@ -1,0 +1,157 @@
+//! Passes over a recording.
+
+ghost use Rattle.std.specs.Prelude.{ℕ, ◌≡◌, List, None, Some, MatchResult, map};
+ghost use Rattle.ch11_setup.specs.Setups.{given_attribute};
+ghost use Rattle.rec_reader.specs.Packets.{PacketData};
+ghost use Rattle.rec_reader.specs.Reading.{Reads};
+ghost use Rattle.rec_pieces.specs.PieceListings.{ListsPackets};
+ghost use Rattle.rec_words.specs.SetupViews.{attribute_data, file_data, setup_channel_data};
+ghost use Rattle.cli_chapter11.specs.WholeFiles.{AreNamesOf, FailsBySetup, WritesBySetup, channel_said};
+
+use crate::channels::{attributes_of, channels_of};
+use crate::summed::{ByteSum, Summed};
+use ch11_clock::Clock;
+use ch11_file::FileCounts;
+use ch11_index::MOST_NAMED;
+use ch11_setup::{Attribute, SetupChannel};
+use rec_pieces::{PieceListing, PlacedRead};
+use rec_whole::{FileNames, WholeEnd, write_whole_file};
+use rec_words::FileSettings;
+use std::alloc::Global;
+use std::io::Write;
+
+/// What a pass saw: how many packets the whole file has, and the sum of its bytes.
+#[derive(Clone, Copy, Debug, PartialEq, Eq)]
+pub(crate) struct Seen {
+    pub counts: FileCounts,
+    pub sum: ByteSum,
+}
+
+/// What a whole file is written of, more than once. It may be another one at the next pass.
+pub(crate) trait Passes {
+    ghost use Rattle.std.specs.Prelude.{ℕ, ◌≡◌, List, Option, IfOk, IfSome, MatchResult};
+    ghost use Rattle.ch11_file.specs.declared.counts.FileCounts.{FileCounts};
+    ghost use Rattle.rec_whole.specs.declared.refusal.WholeEnd.{WholeEnd};
+    ghost use Rattle.cli_chapter11.specs.declared.passes.Seen.{Seen};
+
+    // What it is at the next pass.
+    ghost next: { Self → Self };
+
+    // What a pass sees, if it says that.
+    ghost sees: { Self → Option Seen };
+
+    // How an output grows by its file, of which these are the counts.
+    ghost writes: { Self → Option (List ℕ) → Option (List ℕ) → FileCounts → Type 0 };
+
+    // What an output has where its file ends early, and why.
+    ghost fails: { Self → Option (List ℕ) → Option (List ℕ) → WholeEnd → Type 0 };
+
+    /// Writes its file into an output, and gives what it saw, and the output.
+    fn pass<W: Write + Drop>(&mut self, alloc: Global, output: W) -> Result<(Seen, W), WholeEnd>
+        ensures next { self.new ≡ next self.old }
+        ensures seen { IfOk result (λ wrote. IfSome (sees self.old) (λ seen. wrote.0 ≡ seen)) }
+        ensures wrote { MatchResult result
+            (λ wrote. writes self.old (W.contents output) (W.contents wrote.1) wrote.0.counts)
+            (λ end. (last : W) × fails self.old (W.contents output) (W.contents last) end) };
+}
+
+/// A recording, by what SETUP says.
+#[derive(Drop)]
+pub(crate) struct WholeFile<'f, F> {
+    /// The recording's file.
+    pub file: &'f F,
+    /// Its packets.
+    pub listing: &'f PieceListing,
+    /// What SETUP says.
+    pub settings: &'f FileSettings,
+}
+
+impl<'f, F: PlacedRead> Passes for WholeFile<'f, F> {
+    ghost use Rattle.std.specs.Prelude.{ℕ, ◌≡◌, List, None, Some};
+    ghost use Rattle.rec_reader.specs.Packets.{PacketData};
+    ghost use Rattle.rec_reader.specs.Reading.{Reads};
+    ghost use Rattle.rec_pieces.specs.PieceListings.{ListsPackets};
+    ghost use Rattle.cli_chapter11.specs.WholeFiles.{FailsBySetup, WritesBySetup};
+
+    ghost next = { λ whole. whole };
+
+    ghost sees = { λ _. None };
+
+    ghost writes = { λ whole before held counts. (bytes : List ℕ) (packets : List PacketData)
+        → F.held whole.file.now ≡ Some bytes → Reads bytes packets None
+        → ListsPackets packets whole.listing.now
+        → WritesBySetup whole.settings.now packets before held counts };
+
+    ghost fails = { λ whole before held end. (bytes : List ℕ) (packets : List PacketData)
+        → F.held whole.file.now ≡ Some bytes → Reads bytes packets None
+        → ListsPackets packets whole.listing.now
+        → FailsBySetup whole.settings.now packets before held end };
+
+    fn pass<W: Write + Drop>(&mut self, alloc: Global, output: W) -> Result<(Seen, W), WholeEnd> {
+        write_once(alloc, self, output)
+    }
+}
+
+/// Writes a whole file into an output by what SETUP says, and gives what it saw, and the output.
+fn write_once<F: PlacedRead, W: Write + Drop>(
+    alloc: Global,
+    whole: &WholeFile<'_, F>,
+    output: W,
+) -> Result<(Seen, W), WholeEnd>
+    ensures { MatchResult result
+        (λ wrote. (bytes : List ℕ) (packets : List PacketData)
+        → F.held whole.now.file.now ≡ Some bytes → Reads bytes packets None
+        → ListsPackets packets whole.now.listing.now
+        → WritesBySetup whole.now.settings.now packets (W.contents output)
+        (W.contents wrote.1) wrote.0.counts)
+        (λ end. (last : W) × ((bytes : List ℕ) (packets : List PacketData)
+        → F.held whole.now.file.now ≡ Some bytes → Reads bytes packets None
+        → ListsPackets packets whole.now.listing.now
+        → FailsBySetup whole.now.settings.now packets (W.contents output)
+        (W.contents last) end)) }
+{
+    let settings = whole.settings;
+    let channels = channels_of(alloc, settings.channels.as_slice())?;
+    let attributes = attributes_of(alloc, settings.attributes.as_slice())?;
+    let clock = Clock::new(alloc, settings.origins.as_slice())?;
+    let names = names_of(settings, channels.as_slice(), attributes.as_slice());
+    let mut summed = Summed {
+        out: output,
+        sum: ByteSum::NONE,
+    };
+    let written = write_whole_file(
+        alloc,
+        whole.file,
+        whole.listing,
+        &names,
+        &clock,
+        MOST_NAMED,
+        &mut summed,
+    );
+    let Summed { out, sum } = summed;
+    match written {
+        Ok(counts) => Ok((Seen { counts, sum }, out)),
+        Err(end) => Err(end),
+    }
+}
+
+/// The names of a whole file by SETUP, with its channels and its attributes as a setup record takes them.
+fn names_of<'a>(
+    settings: &'a FileSettings,
+    channels: &'a [SetupChannel<'a>],
+    attributes: &'a [Attribute<'a>],
+) -> FileNames<'a>
+    requires channels { map channel_said channels.now
+        ≡ map setup_channel_data settings.now.channels.items }
+    requires attributes { map given_attribute attributes.now
+        ≡ map attribute_data settings.now.attributes.items }
+    ensures { AreNamesOf (file_data settings.now) result }
+{
+    FileNames {
+        host: settings.host.as_str(),
+        program: settings.program.as_str(),
+        is_external: settings.is_external,
+        channels,
+        attributes,
+    }
+}

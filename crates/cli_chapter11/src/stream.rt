@@ -1,0 +1,97 @@
+//! The command that writes a recording as a stream.
+
+ghost use Rattle.std.specs.Prelude.{OnOk};
+ghost use Rattle.std.specs.Io.KnownBytes.{Appends};
+ghost use Rattle.cli_chapter11.specs.CountsLines.{stream_line};
+
+use crate::channels::{attributes_of, channels_of};
+use crate::files::{PIECE, settings_in};
+use ch11_clock::Clock;
+use cli_streams::{CommandEnding, STREAM, print_line, refuse_output_into_input};
+use rec_reader::Reader;
+use rec_stream::{StreamCounts, StreamEnd, write_stream};
+use rec_whole::FileNames;
+use std::alloc::Global;
+use std::fs;
+use std::io::{BufReader, BufWriter, Read, Write};
+use std::rt::Files;
+
+/// `chapter11 --stream SETUP`: writes the recording on standard input on standard output, as packets of a whole
+/// Chapter 11 file, each as soon as it can go. How many there were is printed on `errors`.
+pub fn stream_chapter11<'a, R: AllocGlobal + Files, I: Read, O: Write, E: Write>(
+    rt: &R,
+    setup: &'a str,
+    input: &mut I,
+    output: &mut O,
+    errors: &mut E,
+) -> Result<(), CommandEnding<'a>> {
+    refuse_output_into_input(rt)?;
+    let alloc = rt.alloc();
+    let settings = settings_in(alloc, setup, fs::open(rt, setup))?;
+    let channels = channels_of(alloc, settings.channels.as_slice())?;
+    let attributes = attributes_of(alloc, settings.attributes.as_slice())?;
+    let clock = Clock::new(alloc, settings.origins.as_slice())?;
+    let names = FileNames {
+        host: settings.host.as_str(),
+        program: settings.program.as_str(),
+        is_external: settings.is_external,
+        channels: channels.as_slice(),
+        attributes: attributes.as_slice(),
+    };
+    let counts = stream_input(alloc, &names, &clock, input, output)?;
+    print_counts(alloc, errors, counts)
+}
+
+/// Writes the recording that an input gives.
+fn stream_input<I: Read, O: Write>(
+    alloc: Global,
+    names: &FileNames<'_>,
+    clock: &Clock,
+    input: &mut I,
+    output: &mut O,
+) -> Result<StreamCounts, CommandEnding<'static>> {
+    let input = BufReader::with_capacity(alloc, PIECE, input).map_err(|_| CommandEnding::Memory)?;
+    let mut out = BufWriter::with_capacity(alloc, PIECE, output).map_err(
+        |_| CommandEnding::Memory,
+    )?;
+    let mut reader = Reader::new(alloc, input);
+    match write_stream(alloc, &mut reader, names, clock, &mut out) {
+        Ok(counts) => Ok(counts),
+        Err(end) if out.flush().is_ok() => Err(ending_of(end)),
+        Err(_) => Err(CommandEnding::File(STREAM)),
+    }
+}
+
+/// How the command ends where the stream ended early.
+fn ending_of(end: StreamEnd) -> CommandEnding<'static> {
+    match end {
+        StreamEnd::Refused(refusal) => CommandEnding::Stream(refusal),
+        StreamEnd::Reading(end) => CommandEnding::of_reading(STREAM, end),
+        StreamEnd::Output => CommandEnding::File(STREAM),
+        StreamEnd::Memory => CommandEnding::Memory,
+    }
+}
+
+/// Prints how many packets of each kind went out, how many of them late, and how many of other kinds were left out.
+fn print_counts<E: Write>(
+    alloc: Global,
+    errors: &mut E,
+    counts: StreamCounts,
+) -> Result<(), CommandEnding<'static>>
+    ensures { OnOk result (Appends (E.contents errors.old) (E.contents errors.new)
+        (stream_line counts)) }
+{
+    let StreamCounts {
+        packets,
+        records,
+        times,
+        late,
+        other,
+    } = counts;
+    let mut line = Vec::new(alloc);
+    let built = writeln!(
+        &mut line,
+        "packets {packets} records {records} times {times} late {late} other {other}"
+    );
+    print_line(errors, &mut line, built)
+}

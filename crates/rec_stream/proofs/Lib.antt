@@ -1,0 +1,11 @@
+pub mod SaidChannels
+pub mod SentSums
+pub mod GoingOn
+pub mod DueTimes
+pub mod Begins
+pub mod Comes
+pub mod Standing
+pub mod Waits
+pub mod StreamWrites
+pub mod OneStream
+pub mod EachPacket

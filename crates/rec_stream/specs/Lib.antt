@@ -1,0 +1,11 @@
+pub mod StreamChannels
+pub mod StreamPieces
+pub mod StreamBlocks
+pub mod LatePieces
+pub mod Streams
+pub mod StreamEnds
+pub mod SentStates
+pub mod Courses
+pub mod WholePieces
+pub mod Sending
+pub mod StreamsRead

@@ -1,3 +1,0 @@
-pub mod StandingKinds
-pub mod StandingMoves
-pub mod StandingDone

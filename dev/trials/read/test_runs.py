@@ -1,0 +1,95 @@
+"""Tries that the name of a run stands for all its recordings: in info, export, check, follow and Python."""
+
+import hashlib
+import json
+from pathlib import Path
+
+import bpfrec
+import pytest
+from bpfrec_host.formats.runs import all_of
+from expected_facts import facts_of_run
+from several_recorders import recording_at
+from support import CHECK, EXPORT, INFO, TOOLS, judge, judge_quietly, outcome, run
+
+WANTED = {"bin/bpfrec": "make build"}
+ORIGINS = [("1764590400.250000000", 0, None)]
+
+
+@pytest.fixture
+def flight(work: Path) -> Path:
+    """A run of three recordings of two frames each, with their facts, and another run beside it."""
+    before = None
+    for number in (1, 2, 3):
+        path = recording_at(work / f"flight_0000{number}.ch11", [number * 100, number * 100 + 50], 1)
+        digest = hashlib.sha256(path.read_bytes()).hexdigest()
+        named = {"recording": path.name, "sha256": digest, "bytes": path.stat().st_size, "before": before}
+        facts: dict = {**facts_of_run(ORIGINS), "interfaces": [{"interface": "eth0", "channel": 1}]}
+        facts |= named
+        Path(f"{path}.json").write_text(json.dumps(facts))
+        before = {"recording": path.name, "sha256": digest}
+    recording_at(work / "flight_two_00001.ch11", [7], 1)
+    return work / "flight.ch11"
+
+
+def parts_of(flight: Path) -> list[Path]:
+    return [flight.with_name(f"flight_0000{number}.ch11") for number in (1, 2, 3)]
+
+
+def test_a_name_stands_for_all_recordings_in_their_order(flight: Path) -> None:
+    wanted = list(map(str, parts_of(flight)))
+    judge("with its ending", all_of(str(flight)) == wanted, all_of(str(flight)))
+    judge("and without it", all_of(str(flight.with_suffix(""))) == wanted)
+    later = flight.with_name("flight_100000.ch11")
+    later.write_bytes(b"")
+    judge("later ones behind", all_of(str(flight)) == [*wanted, str(later)])
+    judge("one that is there stands for itself", all_of(wanted[1]) == [wanted[1]])
+    judge("one of which nothing is there too", all_of("none.ch11") == ["none.ch11"])
+
+
+def test_info_has_one_table_of_all(flight: Path) -> None:
+    told = run(INFO, flight)
+    lines = told.splitlines()
+    judge("a line for the channel", lines[1].split()[:2] == ["1", "6"] and lines[1].split()[4] == "3", lines)
+    times = ("2025-12-01T12:00:00.2500100Z", "2025-12-01T12:00:00.2500350Z", "eth0")
+    judge("with its times and its interface", all(it in lines[1] for it in times), lines[1])
+    names = [it.split()[0] for it in lines[3:7]]
+    judge("a line for each recording", names == ["recording", *(it.name for it in parts_of(flight))], lines)
+    judge("and how many are approved", lines[-1] == "recordings 3, approved by the audit 3", lines[-1])
+    judge("the same of the paths", run(INFO, *parts_of(flight)) == told)
+    found = json.loads(run(INFO, "--json", flight))["recordings"]
+    single = [json.loads(run(INFO, "--json", it)) for it in parts_of(flight)]
+    judge("in JSON an object for each", [{k: v for k, v in it.items() if k != "path"} for it in found] == single)
+    done = outcome(INFO, "--html", flight.with_name("x.html"), flight)
+    judge("the page is of one", done.returncode == 2 and "--html is for one recording" in done.stderr, done)
+
+
+def test_export_makes_one_capture_of_all(flight: Path, work: Path) -> None:
+    run(EXPORT, flight, work / "run.pcapng")
+    run(EXPORT, *parts_of(flight), work / "parts.pcapng")
+    judge("the same capture", (work / "run.pcapng").read_bytes() == (work / "parts.pcapng").read_bytes())
+
+
+def test_a_whole_file_of_a_run_is_refused_with_a_way_out(flight: Path, work: Path) -> None:
+    done = outcome(EXPORT, flight, work / "run.ch10")
+    why = "as recordings of a run are: each gets a file of its own, and a capture takes all"
+    judge("it says so", done.returncode == 1 and why in done.stderr and not (work / "run.ch10").exists(), done)
+
+
+def test_check_has_one_answer_and_sees_what_is_missing(flight: Path) -> None:
+    done = outcome(CHECK, flight)
+    judge("yes", done.returncode == 0 and done.stdout.endswith("\nyes\n"), done)
+    judge("in order", done.stdout.count("before right") == 2 and done.stdout.count("hash right") == 3, done)
+    parts_of(flight)[1].unlink()
+    done = outcome(CHECK, flight)
+    line = "before wrong: flight_00001.ch11, the facts say flight_00002.ch11\n"
+    judge("one in the middle is missing", done.returncode == 1 and line in done.stdout, done)
+    judge("so the answer is no", done.stdout.endswith("\nno\n"), done)
+
+
+def test_follow_and_python_take_it(flight: Path) -> None:
+    with bpfrec.open(flight) as recording:
+        counters = [it.counter for it in recording]
+        judge_quietly("all paths", list(recording.paths) == list(map(str, parts_of(flight))), recording.paths)
+    judge("all frames", counters == [100, 150, 200, 250, 300, 350], counters)
+    done = outcome(TOOLS / "follow", flight, text=False)
+    judge("follow begins with the newest", b"frames 2 skipped 0" in done.stderr, done.stderr)

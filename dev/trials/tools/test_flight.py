@@ -1,0 +1,165 @@
+"""Tries a flight in one TOML: its [run] are the options of live, and its channels name their interfaces."""
+
+import json
+import shutil
+from pathlib import Path
+
+import pytest
+import tomllib
+from support import BPFREC, CONVERT, PREFLIGHT, ROOT, TOOLS, judge, judge_quietly, outcome, run
+
+WANTED = {"bin/bpfrec": "make build", "bin/capture": "make build", "tcpdump": "tcpdump"}
+LIVE = TOOLS / "live"
+FEED = ROOT / "examples/feeds/one.feed"
+CHANNELS = """
+[[channel]]
+id = 1
+interface = "one.pcap"
+name = "bus A"
+filter = "udp port 50001"
+
+[[channel]]
+id = 2
+interface = "two.pcap"
+filter = "arp"
+"""
+
+
+@pytest.fixture
+def folder(work: Path) -> Path:
+    """A folder with two captures, which stand for interfaces."""
+    run(CONVERT, "to-pcap", "--origin", "1764590400.25", FEED, work / "one.pcap")
+    shutil.copy(work / "one.pcap", work / "two.pcap")
+    return work
+
+
+def flight(folder: Path, run_table: str, channels: str = CHANNELS) -> Path:
+    """A flight with this [run]."""
+    path = folder / "flight.toml"
+    path.write_text(f"[run]\n{run_table}\n{channels}")
+    return path
+
+
+def recorded(folder: Path, *words: object, status: int = 0) -> str:
+    """What live prints of the recording that it makes."""
+    done = outcome(LIVE, *words, cwd=folder)
+    judge_quietly(f"{words}", done.returncode == status, done)
+    return done.stdout
+
+
+def test_a_flight_records_what_its_options_and_interfaces_say(folder: Path) -> None:
+    path = flight(folder, 'out = "out.ch11"\nchapter11 = true\nmode = "0604"\nattribute = ["G\\\\SC:U"]\nquiet = true')
+    told = recorded(folder, path)
+    judge("both channels", "channel 1 versions 1 offered 60 kept 11" in told and "channel 2 " in told, told)
+    judge("the audit says yes", told.endswith("yes other 0\n"))
+    judge("each option counts", (folder / "out.ch11").stat().st_mode & 0o777 == 0o604 & ~0o22)
+    judge("a list too", b"G\\SC:U" in (folder / "out.ch11.ch10").read_bytes())
+    facts = json.loads((folder / "out.ch11.json").read_text())
+    judge("facts keep the whole text", facts["settings"] == path.read_text())
+    given = recorded(folder, "--quiet", "plain.ch11", "one.pcap=1:udp port 50001", "two.pcap=2:arp")
+    judge("the same as by the command line", given == told.replace("out.ch11", "plain.ch11"))
+
+
+def test_the_command_line_wins(folder: Path) -> None:
+    path = flight(folder, 'out = "out.ch11"\nmode = "0640"\nquiet = true')
+    recorded(folder, path, "--mode", "0600", "other.ch11")
+    judge("OUT and an option", (folder / "other.ch11").stat().st_mode & 0o777 == 0o600)
+    judge_quietly("not that of the flight", not (folder / "out.ch11").exists())
+    recorded(folder, path, "third.ch11", "one.pcap=2")
+    interfaces = json.loads((folder / "third.ch11.json").read_text())["interfaces"]
+    found = [(it["interface"], it["channel"]) for it in interfaces]
+    judge("an interface", found == [("one.pcap", 2), ("one.pcap", 1)], interfaces)
+
+
+WRONG = {
+    'out = "o.ch11"\nevry = 5': "[run] has no key evry: did you mean every?",
+    'out = "o.ch11"\nhelp = true': "[run] has no key help",
+    'out = "o.ch11"\nquiet = "yes"': "[run] quiet: a text, and it must be true or false",
+    'out = "o.ch11"\nmode = true': "[run] mode: true or false, and it must be a text or a number",
+    'out = "o.ch11"\nmode = {a = 1}': "[run] mode: a table, and it must be a text or a number",
+    'out = 5.5\nmode = "0999"': "--mode needs a mode of three octal digits, as 0640",
+    "out = true": "[run] out: true or false, and it must be a text or a number",
+}
+
+
+@pytest.mark.parametrize("table", WRONG)
+def test_what_run_can_not_have_is_refused_by_both(folder: Path, table: str) -> None:
+    path = flight(folder, table)
+    done = outcome(LIVE, path, cwd=folder)
+    judge("live", done.returncode == 2 and WRONG[table] in done.stderr and done.stderr.count("\n") == 1, done)
+    done = outcome(PREFLIGHT, path, cwd=folder)
+    judge("preflight", done.returncode in (1, 2) and WRONG[table] in done.stdout + done.stderr, done)
+
+
+@pytest.mark.parametrize(
+    "line, told",
+    [
+        ("interface = 5", "channel 1: interface: a number, and it must be a name in quotes"),
+        ('interface = "one.pcap"\nname = ""', "channel 1: name: a text, and it must be a name in quotes"),
+    ],
+)
+def test_a_channel_that_names_nothing_is_refused(folder: Path, line: str, told: str) -> None:
+    path = flight(folder, 'out = "o.ch11"', f'[[channel]]\nid = 1\nfilter = "arp"\n{line}\n')
+    done = outcome(LIVE, path, cwd=folder)
+    judge("refused", done.returncode == 2 and told in done.stderr, done)
+
+
+def test_preflight_names_all_faults_and_says_what_will_happen(folder: Path) -> None:
+    lines = 'publish = "239.1.2.3:50000,interface=nope"\non_alarm = "/no/such"\ncontrol = "/no/d/s"\nsign = "nokey"'
+    path = flight(folder, f'out = "no/bad.ch11"\nstatus = "192.0.2.9:80"\n{lines}')
+    done = outcome(PREFLIGHT, path, cwd=folder)
+    faults = (
+        "no such interface: nope",
+        "/no/such is missing",
+        "no folder /no/d",
+        "nokey: ",
+        "Cannot assign",
+        "no/bad.ch11",
+    )
+    lacking = [it for it in faults if it not in done.stdout]
+    judge("each fault is named", not lacking and done.returncode == 1, (lacking, done.stdout))
+    path = flight(folder, 'out = "good.ch11"\nstatus = 0')
+    told = run(PREFLIGHT, path, cwd=folder)
+    for line in ("records one.pcap as channel 1 (bus A), two.pcap as channel 2", "into good.ch11", "0 faults"):
+        judge(line, f"{line}\n" in told, told)
+    again = run(PREFLIGHT, "--live", path, cwd=folder)
+    first, second = (
+        [it for it in text.splitlines() if not it.endswith(("available", "on its disk"))] for text in (told, again)
+    )
+    judge("live's own words do it too", first == second, again)
+
+
+def test_record_knows_no_run(folder: Path) -> None:
+    done = outcome(BPFREC, "record", flight(folder, 'out = "o.ch11"'), folder / "o.ch11")
+    judge("as it was", (done.returncode, done.stderr) == (2, "settings 2 Unknown run\n"), done)
+
+
+def test_the_example_is_a_flight(folder: Path) -> None:
+    example = ROOT / "examples/flight.toml"
+    found = tomllib.loads(example.read_text())
+    judge("of two interfaces", [it["interface"] for it in found["channel"]] == ["eth0", "eth1"])
+    told = outcome(PREFLIGHT, example, cwd=folder).stdout
+    faults = [
+        it for it in told.splitlines() if "note: " not in it and not it.endswith(("no such interface", " faults"))
+    ]
+    judge(
+        "which lacks nothing but interfaces",
+        [it for it in faults if "permission" not in it and it != "1 fault"] == [],
+        told,
+    )
+
+
+def test_a_channels_name_is_shown_beside_it_and_taken_for_it(folder: Path) -> None:
+    recorded(folder, flight(folder, 'out = "out.ch11"\nquiet = true\nchapter11 = true'))
+    facts = json.loads((folder / "out.ch11.json").read_text())
+    named = [{"interface": "one.pcap", "channel": 1, "name": "bus A"}, {"interface": "two.pcap", "channel": 2}]
+    judge("in the facts", facts["interfaces"] == named, facts["interfaces"])
+    told = run(TOOLS / "info", "out.ch11", cwd=folder)
+    judge("by info", "  bus A (one.pcap)" in told and "  two.pcap" in told, told)
+    run(TOOLS / "export", "--channel", "bus A", "out.ch11", "a.pcapng", cwd=folder)
+    run(TOOLS / "export", "--channel", "1", "out.ch11", "b.pcapng", cwd=folder)
+    judge("by export", (folder / "a.pcapng").read_bytes() == (folder / "b.pcapng").read_bytes())
+    judge("which names it", b"bus A (one.pcap)" in (folder / "a.pcapng").read_bytes())
+    judge("so does the setup record", b"bus A (one.pcap)" in (folder / "out.ch11.ch10").read_bytes())
+    done = outcome(TOOLS / "export", "--channel", "bus C", "out.ch11", "c.pcapng", cwd=folder)
+    judge("one that is none", done.returncode == 1 and "no channel bus C" in done.stderr, done)

@@ -1,1 +1,0 @@
-"""bpfrec-control: lines for a recording that goes on."""

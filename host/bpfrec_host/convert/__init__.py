@@ -1,1 +1,0 @@
-"""bpfrec-convert: feeds from captures and back, sample feeds, and what a feed has."""

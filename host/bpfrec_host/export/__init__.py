@@ -1,0 +1,1 @@
+"""bpfrec export: one file of recordings, a capture in pcapng or a whole Chapter 11 file."""

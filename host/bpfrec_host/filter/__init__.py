@@ -1,0 +1,1 @@
+"""bpfrec filter: what a filter keeps of a capture, as a capture."""

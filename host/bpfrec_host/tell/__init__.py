@@ -1,0 +1,1 @@
+"""bpfrec tell: lines for a recording that goes on."""
