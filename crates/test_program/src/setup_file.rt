@@ -261,7 +261,7 @@ const NOTED: [(&str, &str); 12] = [
     ("{counter = 1, origin = 3}", "setup 4 Value origin"),
     (
         "{counter = -1, zone = 1, offset = 1}",
-        "setup 2 Unknown scale",
+        "setup 2 Unknown offset",
     ),
     ("1", "setup 4 Value origins"),
     ("{scale = 1}, 1", "setup 4 Value origins"),

@@ -7,7 +7,6 @@ import os
 import resource
 import signal
 import subprocess
-import sys
 from pathlib import Path
 from typing import Any
 
@@ -23,7 +22,6 @@ from support import (
     LIVE,
     MEBIBYTE,
     PREFLIGHT,
-    ROOT,
     SALVAGE,
     TOOLS,
     judge,
@@ -164,9 +162,8 @@ def under(most: int, *words: object, **more: Any) -> subprocess.CompletedProcess
 
 def begins_in(most: int) -> bool:
     """Python begins a tool in so many mebibytes. In a little less than it needs Python may end by a fault or hang."""
-    words = [sys.executable, "-B", "-c", f"import sys; sys.path.insert(0, '{ROOT}/host'); import bpfrec_host.__main__"]
     try:
-        return under(most, *words, seconds=5).returncode == 0
+        return under(most, CHECK, "--version", seconds=5).returncode == 0
     except subprocess.TimeoutExpired:
         return False
 
@@ -174,7 +171,7 @@ def begins_in(most: int) -> bool:
 @pytest.fixture(scope="module")
 def least() -> int:
     """The mebibytes in which Python begins a tool, and in each larger size too."""
-    return 1 + next(it for it in range(200, 0, -1) if not begins_in(it))
+    return 1 + next(it for it in range(80, 0, -1) if not begins_in(it))
 
 
 @pytest.mark.parametrize("tool", ["chapter11", "check", "follow", "info", "pcapng", "salvage", "preflight", "live"])
