@@ -36,9 +36,10 @@ class Channels:
     def channel(self, key: Key, members: list[Source]) -> Channel:
         """A channel, by the recordings that have it."""
         number, recorder = key
-        name = members[0].recording.interface_of(number) or f"channel {self.ids[key]}"
-        host = recorder.source if members[0].facts else ""
-        return Channel(self.ids[key], name, host, number, tuple(it.path for it in members))
+        facts, interface = members[0].facts, members[0].recording.interface_of(number)
+        name = (facts and facts.names.get(number)) or interface or f"channel {self.ids[key]}"
+        host = recorder.source if facts else ""
+        return Channel(self.ids[key], name, host, number, tuple(it.path for it in members), interface)
 
     def parts_of(self, key: Key, members: list[Source]) -> Iterator[Part]:
         """The parts of a channel."""
@@ -50,15 +51,15 @@ class Channels:
         return self.ids_in[source.number, number]
 
     def asked(self, channels: Asked) -> set[int]:
-        """The IDs of the channels that are asked for by their IDs or names."""
+        """The IDs of the channels that are asked for by their IDs, names or interfaces."""
         if channels is None:
             return {it.id for it in self.all}
         return {number for named in each_of(channels) for number in self.ids_of(named)}
 
     def ids_of(self, named: Named) -> set[int]:
-        """The IDs of the channels that have an ID or a name."""
+        """The IDs of the channels that have an ID, a name or an interface."""
         if isinstance(named, str):
-            found, asked = {it.id for it in self.all if it.name == named}, f"named {named}"
+            found, asked = {it.id for it in self.all if named in (it.name, it.interface)}, f"named {named}"
             if named.isdecimal():
                 asked += "; an ID is given as an int"
         else:

@@ -14,7 +14,7 @@ from bpfrec._decode import Owner, frames_in
 from bpfrec._facts import Facts, Given, public, utc_at
 from bpfrec._faults import Fault
 from bpfrec._frame import Frame
-from bpfrec._records import Channel, End, Filter, is_program
+from bpfrec._records import Channel, End, Filter
 from bpfrec._sources import Part, Source, moment_of
 from bpfrec_host.formats.listing import listing_of
 from bpfrec_host.formats.runs import all_of
@@ -186,11 +186,9 @@ class Recording:
 
     def _filters_of(self, source: Source) -> Iterator[Filter]:
         """The programs of a recording."""
-        expressions = source.facts.expressions if source.facts else []
         for (number, version, first, insns), counter in source.contents.met:
-            said = [it.text for it in expressions if it.channel == number and is_program(it.listing, insns)]
             time, channel = utc_at(source.facts, counter), self._channels.id_of(source, number)
-            expression = said[0] if said else None
+            expression = source.facts.expression_of(number, insns) if source.facts else None
             yield Filter(channel, version, first, counter, time, listing_of(insns), expression, source.path)
 
 

@@ -6,21 +6,22 @@ from datetime import datetime as DateTime
 from typing import NamedTuple, Optional
 
 from bpfrec._frame import datetime_of
-from bpfrec_host.formats.listing import INSN
 
 
 class Channel(NamedTuple):
     """A channel of a recording, or of several that follow one another.
 
-    `id` is what frames have as `channel`, and `name` its interface by the facts, or else `channel` and its ID.
-    `host` recorded it; it is empty without facts. `recorded_as` is its channel ID in the recordings of `paths`.
-    Both IDs are the same, but where channels of several recorders meet: see `bpfrec.open`."""
+    `id` is what frames have as `channel`. `name` is the one that the settings gave it, else its interface, both by the
+    facts, or else `channel` and its ID. `host` recorded it; it is empty without facts. `recorded_as` is its channel ID
+    in the recordings of `paths`. Both IDs are the same, but where channels of several recorders meet: see
+    `bpfrec.open`. `interface` is None where the facts have none."""
 
     id: int
     name: str
     host: str
     recorded_as: int
     paths: tuple[str, ...]
+    interface: Optional[str] = None
 
 
 class Filter(NamedTuple):
@@ -55,17 +56,3 @@ class End(NamedTuple):
     offered: int
     kept: int
     path: str
-
-
-def instructions_in(listing: str) -> list[tuple[int, ...]]:
-    """The instructions of a listing, which may have a line or a comma behind each: code, jt, jf and k."""
-    words = [tuple(map(int, part.split())) for part in listing.replace("\n", ",").split(",") if part.strip()]
-    return words[1:]
-
-
-def is_program(listing: str, insns: bytes) -> bool:
-    """Whether a listing has these instructions, which are stored as in a recording."""
-    try:
-        return instructions_in(listing) == list(INSN.iter_unpack(insns))
-    except ValueError:
-        return False

@@ -264,7 +264,8 @@ def test_channels_filters_and_ends_are_those_of_the_recording(work: Path) -> Non
     ]
     opened = bpfrec.open(written(work, recording(), ONE_ORIGIN, filters=filters))
     path = str(work / "x.ch11")
-    channels = (bpfrec.Channel(1, "eth0", "fc1", 1, (path,)), bpfrec.Channel(2, "channel 2", "fc1", 2, (path,)))
+    first = bpfrec.Channel(1, "eth0", "fc1", 1, (path,), "eth0")
+    channels = (first, bpfrec.Channel(2, "channel 2", "fc1", 2, (path,)))
     judge("channels", opened.channels == channels, opened.channels)
     judge("the end", opened.ends == (bpfrec.End(1, 4, 4, path),), opened.ends)
     wanted = tuple(
@@ -273,6 +274,15 @@ def test_channels_filters_and_ends_are_those_of_the_recording(work: Path) -> Non
     )
     judge("filters", opened.filters == wanted, opened.filters)
     judge("with a datetime", opened.filters[0].datetime == datetime(2025, 12, 1, 12, 0, 0, 250_000, timezone.utc))
+
+
+def test_a_channel_has_the_name_of_the_settings_and_is_found_by_it(work: Path) -> None:
+    interfaces = [{"interface": "eth0", "channel": 1, "name": "bus A"}]
+    opened = bpfrec.open(written(work, recording(), ONE_ORIGIN, interfaces=interfaces))
+    found = [(it.name, it.interface) for it in opened.channels]
+    judge("its name, and its interface", found == [("bus A", "eth0"), ("channel 2", None)], found)
+    by = [counters(opened.frames(it)) for it in ("bus A", "eth0", 1)]
+    judge("by each of the three", by[0] and by[0] == by[1] == by[2], by)
 
 
 def test_a_change_of_a_filter_has_its_first_frame_and_its_counter(work: Path) -> None:

@@ -50,6 +50,7 @@ CHANNEL = ChannelView(
     history=tuple(SECONDS),
     filter=FilterView("udp", 6),
     link=LinkView(True, "no carrier", 1.5, 211),
+    name="bus A",
 )
 VIEW = View(
     now=1_000.0,
@@ -90,6 +91,7 @@ STATUS: dict[str, Any] = {
         {
             "channel": 7,
             "interface": "eth0",
+            "name": "bus A",
             "level": "ok",
             "words": [],
             "version": 5,
@@ -158,8 +160,8 @@ def test_each_value_of_the_status_is_the_one_that_it_stands_for() -> None:
 
 def test_each_metric_is_the_one_that_it_stands_for() -> None:
     text = metrics.with_age(metrics.text_of(VIEW, ()), 0.75)
-    found = {name: float(value) for name, value in re.findall(r"^bpfrec_(\S+) (\S+)$", text, re.MULTILINE)}
-    labels = 'channel="7",interface="eth0"'
+    found = {name: float(value) for name, value in re.findall(r"^bpfrec_(.+) (\S+)$", text, re.MULTILINE)}
+    labels = 'channel="7",interface="eth0",name="bus A"'
     wanted: dict[str, float] = {**OF_RUN, f'channel_filter_info{{{labels},filter="udp"}}': 1}
     wanted |= {f"channel_{name}{{{labels}}}": value for name, value in OF_CHANNEL.items()}
     wanted |= {f'alarms{{name="{name}"}}': 0 for name in metrics.ALARMS}

@@ -20,6 +20,7 @@ from scripted import Flight, Terminal, View, Wire, alarms, table, wires_of
 from support import judge, judge_quietly
 
 LIMIT = 65_536
+KEEPS_NOTHING = ("KEEPS", "NOTHING", "all")
 
 
 def columns_of(letter: str) -> int:
@@ -152,25 +153,27 @@ def test_the_table_shows_the_run_the_disk_and_each_channel(work: Path) -> None:
         found[3].startswith("channel 22 (eth1): the filter keeps nothing, or too little"),
         found[3],
     )
-    titles = ["channel", "came/s", "kept/s", "lost", "changes", "last", "state,", "filter"]
+    titles = ["channel", "came", "kept", "lost", "came/s", "kept/s", "last", "state,", "filter"]
     judge("a title", found[4].split() == titles, found[4])
     judge(
         "a channel that is well",
-        found[5].split() == ["1", "eth0", "400", "200", "0", "0", "0", "s", "all", "█" * 20],
+        found[5].split() == ["1", "eth0", "28,000", "14,000", "0", "400", "200", "0", "s", "all", "█" * 20],
         found[5],
     )
     judge(
         "and one that isn't",
-        found[6].split() == ["22", "eth1", "500", "0", "0", "0", "0", "s", "KEEPS", "NOTHING", "all", "█" * 15],
+        found[6].split() == ["22", "eth1", "35,000", "0", "0", "500", "0", "0", "s", *KEEPS_NOTHING, "█" * 16],
         found[6],
     )
     judge("in red", lines[6].startswith("\x1b[97;41m") and lines[6].endswith("\x1b[0m") and "\x1b" not in lines[5])
     narrow = plain(table.lines_of(*told_of(flight), 100, 30))
-    judge("its bar has the room that there is", narrow[5].endswith("all".ljust(25) + "█" * 9), narrow[5])
+    judge("its bar has the room that there is", narrow[5].endswith("all".ljust(25) + "█" * 10), narrow[5])
     narrow = plain(table.lines_of(*told_of(flight), 79, 30))
     judge("a narrow table has the filter alone", narrow[5].endswith("0 s  all") and "█" not in narrow[5], narrow[5])
     judge("or what is wrong, whole", narrow[6].endswith("0 s  KEEPS NOTHING"), narrow[6])
     judge_report(flight, len(found))
+    named = told_of(flight)[0].channels[0]._replace(name="bus A")
+    judge("a name beside its interface", table.row(named, ()).text.split()[:4] == ["1", "bus", "A,", "eth0"], named)
     flight.end_recording()
     flight.status.ended(flight.now())
     found = plain(table.lines_of(*told_of(flight), 120, 30))
@@ -181,7 +184,8 @@ def judge_report(flight: Flight, count: int) -> None:
     """What a line asks for has all of the table."""
     flight.status.filter_changed(22, 1, "udp port 5004 and not net 192.0.2.0/24")
     asked = flight.status.report(flight.now())
-    judge("the whole filter", asked[-1].endswith("KEEPS NOTHING udp port 5004 and not net 192.0.2.0/24"), asked)
+    words = "KEEPS NOTHING udp port 5004 and not net 192.0.2.0/24 (1 change)"
+    judge("the whole filter", asked[-1].endswith(words), asked)
     judge("in all lines, without colours", len(asked) == count and "\x1b" not in "".join(asked), asked)
 
 
@@ -200,7 +204,7 @@ def test_a_pipe_that_waits_is_a_warning_beside_the_graph(work: Path) -> None:
     lines = table.lines_of(*told_of(flight), 120, 30)
     found = plain(lines)
     judge("a warning and an alarm", found[0] == "RECORDING, 1 ALARM, 1 warning", found)
-    ends = "PIPE WAITS " + "all".ljust(25) + "█" * 18
+    ends = "PIPE WAITS " + "all".ljust(25) + "█" * 19
     judge("each with its filter and its graph", [it.endswith(ends) for it in found[6:8]] == [True] * 2, found)
     judge("in yellow and red", [it[:8] for it in lines[6:8]] == ["\x1b[30;43m", "\x1b[97;41m"], lines)
     narrow = plain(table.lines_of(*told_of(flight), 109, 30))[6]

@@ -97,6 +97,7 @@ class Wire:
     end: int = 1 << 30
     drops_at: tuple[int, ...] = ()
     filter: str = "all"
+    name: str = ""
 
 
 def program(channel: int, version: int, returned: int = 1) -> bytes:
@@ -126,7 +127,7 @@ class Flight:
         return BEGIN + self.second
 
     def setups(self) -> list[status.Setup]:
-        return [status.Setup(channel, it.interface, it.filter) for channel, it in self.wires.items()]
+        return [status.Setup(channel, it.interface, it.filter, it.name) for channel, it in self.wires.items()]
 
     def begin(self, name: str = "flight.ch11") -> None:
         """A recording begins, with the program of each channel."""

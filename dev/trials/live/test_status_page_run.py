@@ -17,6 +17,8 @@ LONG = "udp port 5004 and net 192.0.2.0/24 and not host 192.0.2.77 or " + "ether
 FILTERS = (
     "[...document.querySelectorAll('.filter')].map(it => [it.querySelector('b').textContent, it.lastChild.textContent])"
 )
+NAMES = "[...document.querySelectorAll('.interface')].map(it => it.textContent)"
+TICKS = "[...document.querySelectorAll('path.change')].map(it => it.getAttribute('d'))"
 TEXT = "document.getElementById('{}').textContent"
 
 
@@ -39,18 +41,21 @@ def full() -> dict[int, Wire]:
 
 
 def test_each_channel_has_its_filter_in_words_and_its_changes(browser: Browser, flown: Callable) -> None:
-    flight = flown({1: Wire("eth0", filter="udp port 5004"), 2: Wire("eth1")}, 10)
+    flight = flown({1: Wire("eth0", filter="udp port 5004", name="bus A"), 2: Wire("eth1")}, 10)
     flight.status.filter_changed(2, 1, "wire.txt")
     flight.status.filter_changed(2, 2, LONG)
     flight.pass_second()
     page = opened(browser, flight, DESKTOP)
     judge("in words", page.ask(FILTERS) == [["udp port 5004", ""], [LONG, "2 changes"]], page.ask(FILTERS))
+    judge("each with its name", page.ask(NAMES) == ["bus A, eth0", "eth1"], page.ask(NAMES))
+    judge("the second of a change has a tick", page.ask(TICKS) == ["", "M59.00 0h.15V30h-.15z"], page.ask(TICKS))
     flight.end_recording()
     flight.wires[2].filter = LONG
     flight.begin("next.ch11")
     flight.status.filter_changed(1, 1, "arp")
     flight.pass_second()
     judge("also those of recordings before", page.wait(f"{FILTERS}[0][1] === '1 change'", 3), page.ask(FILTERS))
+    judge("a new recording is no change", page.ask(TICKS)[1].count("M") == 1, page.ask(TICKS))
     judge("which count on", page.ask(FILTERS) == [["arp", "1 change"], [LONG, "2 changes"]], page.ask(FILTERS))
 
 

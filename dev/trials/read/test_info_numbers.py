@@ -76,7 +76,7 @@ def expected_channel(channel: Channel) -> dict[str, Any]:
         "marked": sum(marks > 0 for _, marks, _ in channel.frames),
         "version_count": len(channel.versions),
         "versions": [
-            {"version": it.number, "until": until, "first_frame": it.first, "counter": it.counter}
+            {"version": it.number, "until": until, "first_frame": it.first, "counter": it.counter, "words": None}
             for it, until in joined(channel.versions)
         ],
         "has_end": channel.end is not None,

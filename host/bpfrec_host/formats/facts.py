@@ -21,6 +21,7 @@ from bpfrec_host.formats.limits import (
     NANOSECONDS_A_SECOND,
     NANOSECONDS_A_TICK,
 )
+from bpfrec_host.formats.listing import has_instructions
 from bpfrec_host.formats.marks import Mark, marks_in
 
 SECONDS = re.compile(r"(-?)([0-9]{1,12})\.([0-9]{9})")
@@ -106,6 +107,11 @@ class Facts:
         self.synchronisation: Any = told.get("synchronisation")
         self.holding = holding(self.origins)
         self.counters = [it.counter for it in self.holding]
+
+    def expression_of(self, channel: int, insns: bytes) -> Optional[str]:
+        """The words of which a channel's program of these stored instructions was made; None where nothing says it."""
+        mine = (it for it in self.expressions if it.channel == channel)
+        return next((it.text for it in mine if has_instructions(it.listing, insns)), None)
 
     def origin_at(self, counter: int) -> Optional[Origin]:
         """The last origin whose counter is at most this one; None where there is none."""

@@ -19,6 +19,15 @@ def listing_of(insns: bytes) -> str:
     return "".join(f"{it}," for it in [str(len(insns) // INSN_LEN), *words])
 
 
+def has_instructions(listing: str, insns: bytes) -> bool:
+    """Whether a listing, which may have a line or a comma behind each instruction, has these, as they are stored."""
+    words = [part.split() for part in listing.replace("\n", ",").split(",") if part.strip()]
+    try:
+        return [tuple(map(int, it)) for it in words[1:]] == list(INSN.iter_unpack(insns))
+    except ValueError:
+        return False
+
+
 def no_listing(path: str) -> str:
     """What is said of a file that isn't written as a listing is; it may be a text for the assembler."""
     return f"{path} is no listing: bpfrec asm makes one"

@@ -8,7 +8,7 @@ from bpfrec_host.formats.facts import TAI, Origin
 from bpfrec_host.formats.marks import Mark
 from bpfrec_host.info.contents import MOST_PLACES, Channel, Recording
 from bpfrec_host.info.facts_file import FactsFile, span_of, utc_at
-from bpfrec_host.info.names import utc_time
+from bpfrec_host.info.names import utc_time, words_of
 
 
 def object_of(recording: Recording, audit: Optional[str], beside: Optional[FactsFile] = None) -> dict[str, Any]:
@@ -87,7 +87,13 @@ def channel_object(number: int, channel: Channel, beside: Optional[FactsFile]) -
         "marked": channel.marked,
         "version_count": channel.version_count,
         "versions": [
-            {"version": it.number, "until": it.until, "first_frame": it.first, "counter": it.counter}
+            {
+                "version": it.number,
+                "until": it.until,
+                "first_frame": it.first,
+                "counter": it.counter,
+                "words": words_of(number, it, beside),
+            }
             for it in channel.versions
         ],
         "has_end": channel.end is not None,

@@ -4,14 +4,21 @@ from __future__ import annotations
 
 from typing import Optional
 
+from bpfrec_host.formats.facts import on_a_line
 from bpfrec_host.formats.whole_file import time_text
-from bpfrec_host.info.contents import Channel
+from bpfrec_host.info.contents import Channel, Version
 from bpfrec_host.info.facts_file import FactsFile, interface_of, time_of, utc_at
 
 
 def name_of(number: int, channel: Channel, beside: Optional[FactsFile]) -> str:
     """The name of a channel; nothing where it isn't known."""
     return channel.name or interface_of(number, beside)
+
+
+def words_of(number: int, version: Version, beside: Optional[FactsFile]) -> Optional[str]:
+    """The words of which a version of a channel's filter was made; None where they aren't known."""
+    words = beside.known.expression_of(number, version.insns) if beside else None
+    return None if words is None else on_a_line(words)
 
 
 def said_time(counter: Optional[int], ticks: Optional[int], beside: Optional[FactsFile]) -> Optional[str]:

@@ -10,7 +10,7 @@ from bpfrec_host.filter_texts import Texts
 from bpfrec_host.formats.facts import on_a_line
 from bpfrec_host.info.contents import Channel, Recording
 from bpfrec_host.info.facts_file import FactsFile
-from bpfrec_host.info.names import name_of
+from bpfrec_host.info.names import name_of, words_of
 from bpfrec_host.info.text import Row, number, rows_of, rows_of_whole, seconds
 from bpfrec_host.info.timeline import Axis, escaped, last_of, timeline
 
@@ -61,15 +61,19 @@ def table(rows: Iterable[Row], bad: Collection[str] = ()) -> str:
     return f"<table>{''.join(cells)}</table>"
 
 
-def filters(channel: Channel, axis: Axis, texts: Texts) -> Iterator[str]:
-    """Each version's span with its text beside it."""
+def filters(
+    channel_id: int, channel: Channel, axis: Axis, texts: Texts, beside: Optional[FactsFile]
+) -> Iterator[str]:
+    """Each version's span with its words and its text beside it."""
     for at, version in enumerate(channel.versions):
         after = channel.versions[at + 1] if at + 1 < len(channel.versions) else None
         to = f"to frame {number(after.first - 1)}" if after else "on"
         ends = (version.counter, after.counter if after else last_of(channel))
         begin, until = (seconds(it - axis.first) for it in ends)
+        words = words_of(channel_id, version, beside)
+        title = f"Version {version.name()}{'' if words is None else f': {words}'}"
         yield (
-            f"<div class=filter><div class={('even', 'odd')[at % 2]}><h3>Version {version.name()}</h3>"
+            f"<div class=filter><div class={('even', 'odd')[at % 2]}><h3>{escaped(title)}</h3>"
             f"<div>from frame {number(version.first)} {to}</div><div class=soft>{begin} to {until}</div></div>"
             f"<pre>{escaped(texts.text_of(version.insns))}</pre></div>"
         )
@@ -84,7 +88,7 @@ def section(channel_id: int, channel: Channel, axis: Axis, texts: Texts, beside:
     marks = beside.known.marks if beside else ()
     return (
         f"<section><h2>{escaped(title)}</h2>{timeline(channel, axis, marks)}{table(rows_of(channel_id, channel, beside), bad)}"
-        f"{''.join(filters(channel, axis, texts))}</section>"
+        f"{''.join(filters(channel_id, channel, axis, texts, beside))}</section>"
     )
 
 

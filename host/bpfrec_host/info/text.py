@@ -7,9 +7,9 @@ from typing import Iterator, Optional, Union
 from bpfrec_host.formats import ch11, facts
 from bpfrec_host.formats.limits import TICKS_A_SECOND
 from bpfrec_host.formats.marks import Mark
-from bpfrec_host.info.contents import MOST_PLACES, Channel, Missing, Recording
+from bpfrec_host.info.contents import MOST_PLACES, Channel, Missing, Recording, Version
 from bpfrec_host.info.facts_file import MOMENTS, FactsFile, span_of, time_of
-from bpfrec_host.info.names import name_of, said_time
+from bpfrec_host.info.names import name_of, said_time, words_of
 from bpfrec_host.info.overview import overview
 from bpfrec_host.program import Audit
 
@@ -141,14 +141,18 @@ def rows_of_whole(recording: Recording, audit: Audit, beside: Optional[FactsFile
 
 def channel_lines(channel_id: int, channel: Channel, beside: Optional[FactsFile]) -> Iterator[str]:
     """The lines of a channel, behind an empty one."""
-    versions = [
-        (f"version {it.name()}", f"from frame {number(it.first)}, counter {number(it.counter)}")
-        for it in channel.versions
-    ]
+    versions = [(f"version {it.name()}", version_text(channel_id, it, beside)) for it in channel.versions]
     called = name_of(channel_id, channel, beside)
     yield f"\nchannel {channel_id}{f': {called}' if called else ''}\n"
     for name, value in rows_of(channel_id, channel, beside) + versions:
         yield f"  {name:<26} {value}\n"
+
+
+def version_text(channel_id: int, version: Version, beside: Optional[FactsFile]) -> str:
+    """From which frame on a version of a filter held, and the words of which it was made."""
+    words = words_of(channel_id, version, beside)
+    begin = f"from frame {number(version.first)}, counter {number(version.counter)}"
+    return begin if words is None else f"{begin}: {words}"
 
 
 def text_parts(recording: Recording, audit: Audit, beside: Optional[FactsFile] = None) -> Iterator[str]:

@@ -35,7 +35,8 @@ class Observers:
     def begun(self, recorder: Recorder) -> None:
         """A recorder has opened OUT."""
         interfaces = {it.channel: it.interface for it in self.folder.routes}
-        setups = [Setup(channel, interfaces.get(channel), name) for channel, name in self.filters.items()]
+        names = self.folder.names
+        setups = [Setup(it, interfaces.get(it), made, names.get(it, "")) for it, made in self.filters.items()]
         if self.observer:
             self.observer.recording_begun(recorder.recording.number, recorder.about.out, setups, time.monotonic())
 

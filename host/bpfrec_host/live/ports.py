@@ -74,12 +74,13 @@ class Ports(NamedTuple):
 
 
 class Setup(NamedTuple):
-    """A channel of a recording, with the interface that it has, None where its feed is a file or a pipe, and its filter
-    as people know it."""
+    """A channel of a recording, with the interface that it has, None where its feed is a file or a pipe, its filter as
+    people know it, and the name that the settings give it."""
 
     channel: int
     interface: Optional[str]
     filter: str = "all"
+    name: str = ""
 
 
 class Counts(NamedTuple):

@@ -209,8 +209,8 @@ def due(channel: ChannelView, limit: int) -> float:
 
 def of(channel: ChannelView, name: str, level: str, word: str, text: str) -> Alarm:
     """An alarm of a channel."""
-    interface = f" ({channel.interface})" if channel.interface else ""
-    return Alarm(name, level, channel.channel, word, f"channel {channel.channel}{interface}: {text}")
+    source = f" ({channel.source()})" if channel.source() else ""
+    return Alarm(name, level, channel.channel, word, f"channel {channel.channel}{source}: {text}")
 
 
 # ---- numbers in texts

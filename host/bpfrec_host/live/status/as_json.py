@@ -62,6 +62,7 @@ def channel_object(channel: ChannelView, alarms: tuple[Alarm, ...]) -> dict[str,
     return {
         "channel": channel.channel,
         "interface": None if channel.interface is None else printable(channel.interface),
+        "name": printable(channel.name),
         "level": level_of(alarms, channel.channel),
         "words": [alarm.word for alarm in mine],
         "version": channel.version,

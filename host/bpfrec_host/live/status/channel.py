@@ -6,7 +6,7 @@ from collections import deque
 from typing import Optional
 
 from bpfrec_host.live.expressions import ALL
-from bpfrec_host.live.ports import Counts
+from bpfrec_host.live.ports import Counts, Setup
 from bpfrec_host.live.status.view import HISTORY_SECONDS, ChannelView, FilterView, LinkView, Second, Unkept, lost
 
 # Counts that come closer together than this make no rate of their own, and those that are older tell none, in seconds.
@@ -19,8 +19,8 @@ KEPT = (Second._fields.index("kept_frames"), Second._fields.index("kept_bytes"))
 class Channel:
     """A channel. The capture's counts come at a phase of their own, so a rate is that between two of them."""
 
-    def __init__(self, channel: int, interface: Optional[str], now: float) -> None:
-        self.channel, self.interface = channel, interface
+    def __init__(self, setup: Setup, now: float) -> None:
+        self.channel, self.interface, self.name = setup.channel, setup.interface, setup.name
         self.filter = FilterView(ALL, 0)
         self.version, self.has_ended = 0, False
         # The last counts, and those of the last second's end; moments of the last counts, frame and loss.
@@ -139,6 +139,7 @@ class Channel:
         return ChannelView(
             channel=self.channel,
             interface=self.interface,
+            name=self.name,
             version=self.version,
             counts=self.counts,
             counts_age=since(self.counted_at, now),

@@ -148,7 +148,8 @@ def of_channels(view: View) -> Iterator[str]:
 
 def labels_of(channel: ChannelView) -> tuple[tuple[str, str], ...]:
     """The labels of a channel's samples."""
-    return ("channel", str(channel.channel)), ("interface", channel.interface or "")
+    named = (("name", channel.name),) if channel.name else ()
+    return ("channel", str(channel.channel)), ("interface", channel.interface or ""), *named
 
 
 def family(name: str, kind: str, text: str, samples: Iterable[Sample]) -> str:

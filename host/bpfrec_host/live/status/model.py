@@ -86,7 +86,7 @@ class Model:
 
     def new_channel(self, setup: Setup, now: float) -> Channel:
         """A channel that comes, whose interface may be away already."""
-        made = Channel(setup.channel, setup.interface, now)
+        made = Channel(setup, now)
         if setup.interface in self.links:
             made.link(*self.links[setup.interface])
         return made

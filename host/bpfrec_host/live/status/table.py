@@ -16,10 +16,12 @@ PLAIN = "\x1b[0m"
 # A bar of the last seconds, from nothing to the most.
 LEVELS = " ▁▂▃▄▅▆▇█"
 # The least that is drawn, and the widths of names that may be cut.
-LEAST_WIDTH, LEAST_HEIGHT, NAME_WIDTH = 20, 4, 15
+LEAST_WIDTH, LEAST_HEIGHT, NAME_WIDTH = 20, 4, 13
 BAR_SECONDS = 20
 # The columns of a filter, where there are so many, and the fewest in which one is shown.
 FILTER_WIDTH, LEAST_FILTER_WIDTH = 24, 5
+# What large numbers are counted in: no run has 10^18 frames.
+UNITS = ((1e3, "k"), (1e6, "M"), (1e9, "G"), (1e12, "T"), (1e15, "P"))
 
 
 class Line(NamedTuple):
@@ -84,7 +86,8 @@ def ago(age: Optional[float]) -> str:
 # ---- channels
 
 TITLES = (
-    f"{'channel':<{NAME_WIDTH + 6}} {'came/s':>8} {'kept/s':>8} {'lost':>7} {'changes':>7} {'last':>8}  state, filter"
+    f"{'channel':<{NAME_WIDTH + 6}} {'came':>6} {'kept':>6} {'lost':>6} {'came/s':>6} {'kept/s':>6} {'last':>8}"
+    "  state, filter"
 )
 
 # The column at which a channel's state begins.
@@ -103,16 +106,18 @@ def shown(channels: tuple[ChannelView, ...], alarms: tuple[Alarm, ...], room: in
 def row(channel: ChannelView, alarms: tuple[Alarm, ...], width: Optional[int] = None) -> Line:
     """A channel, for a line of so many columns; without them, with its whole filter and no bar."""
     came, kept = offered_rates(channel.history), kept_rates(channel.history)
-    name = cut(printable(channel.interface or "(a feed)"), NAME_WIDTH)
+    name = cut(printable(channel.source() or "(a feed)"), NAME_WIDTH)
     words = ", ".join(alarm.word for alarm in alarms if alarm.channel == channel.channel)
     said = words.upper() or ("ended" if channel.has_ended else "")
-    whole_state = f"{said} {channel.filter.name}".strip()
+    whole_state = f"{said} {filter_text(channel)}".strip()
+    counts = channel.counts
     columns = [
         f"{channel.channel:>5} {padded(name, NAME_WIDTH)}",
-        f"{rate(came[0] if came else None):>8}",
-        f"{rate(kept[0] if kept else None):>8}",
-        f"{'-' if channel.counts is None else format(lost(channel.counts), ','):>7}",
-        f"{channel.filter.changes:>7}",
+        f"{number(counts and counts.frames):>6}",
+        f"{number(channel.kept_frames):>6}",
+        f"{number(counts and lost(counts)):>6}",
+        f"{number(came and came[0]):>6}",
+        f"{number(kept and kept[0]):>6}",
         f"{'-' if channel.frame_age is None else duration(channel.frame_age):>8}",
         f" {whole_state if width is None else state(channel, said, width - STATE_AT)}",
     ]
@@ -124,17 +129,28 @@ def state(channel: ChannelView, said: str, width: int) -> str:
     parts = [said] if said else []
     room = width - len(said) - len(parts)
     if room >= LEAST_FILTER_WIDTH:
-        parts.append(padded(cut(printable(channel.filter.name), min(room, FILTER_WIDTH)), FILTER_WIDTH))
+        parts.append(padded(cut(printable(filter_text(channel)), min(room, FILTER_WIDTH)), FILTER_WIDTH))
     if not channel.has_ended:
         parts.append(bar(channel, room - FILTER_WIDTH - 1))
     return " ".join(parts).rstrip()
 
 
-def rate(value: Optional[float]) -> str:
-    """Frames a second."""
+def filter_text(channel: ChannelView) -> str:
+    """Its filter, and how often that was changed."""
+    name, changes = channel.filter
+    return f"{name} ({plural(changes, 'change')})" if changes else name
+
+
+def number(value: Optional[float]) -> str:
+    """Frames, or frames a second, in six columns: whole to 99,999, then in three digits."""
     if value is None:
         return "-"
-    return f"{value:.1f}" if 0 < value < 10 else f"{value:,.0f}"
+    if isinstance(value, float) and 0 < value < 10:
+        return f"{value:.1f}"
+    if value < 99_999.5:
+        return f"{value:,.0f}"
+    scaled, letter = next((value / unit, it) for unit, it in UNITS if value < unit * 999.5)
+    return f"{scaled:.{2 if scaled < 9.995 else 1 if scaled < 99.95 else 0}f} {letter}"
 
 
 def bar(channel: ChannelView, width: int) -> str:

@@ -58,7 +58,8 @@ class LinkView(NamedTuple):
 
 
 class ChannelView(NamedTuple):
-    """A channel. `interface` is None where its feed is a file or a pipe, of which nobody counts what is offered.
+    """A channel. `interface` is None where its feed is a file or a pipe, of which nobody counts what is offered, and
+    `name` is empty where the settings give it none.
     `version` is the last version of its filter in this recording. `kept` frames and bytes are those of the run that are
     in recordings; `seconds` is for how long the channel has been recorded, and `has_ended` whether the recording has the
     record of its end."""
@@ -78,6 +79,11 @@ class ChannelView(NamedTuple):
     history: tuple[Second, ...]
     filter: FilterView = FilterView("all", 0)
     link: LinkView = LinkView()
+    name: str = ""
+
+    def source(self) -> str:
+        """What it is called, and the interface that brings its frames."""
+        return ", ".join(it for it in (self.name, self.interface) if it)
 
 
 class RecordingView(NamedTuple):
