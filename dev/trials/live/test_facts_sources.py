@@ -206,6 +206,7 @@ SOURCES: dict[str, Callable[[Seen], list]] = {
     "sha256": lambda seen: [run("sha256sum", seen.out)[:64]],
     "bytes": lambda seen: [seen.out.stat().st_size],
     "before": lambda _: [None],
+    "next": lambda _: [None],
     "marks.counter": lambda seen: [seen.between(*seen.marked)],
     "marks.time": lambda seen: [Between(seen.marked[0] / SECOND - 1, seen.marked[1] / SECOND)],
     "marks.text": lambda _: [TEXT],

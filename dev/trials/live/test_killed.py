@@ -136,6 +136,8 @@ def test_one_that_is_killed_as_soon_as_it_has_written_has_facts_and_its_place_in
     judge("each has ended", [it["status"] for it in facts] == [0, 137, 0], facts)
     before = [it["before"]["recording"] for it in facts[1:]]
     judge("each is behind the one before", before == ["kill_00001.ch11", "kill_00002.ch11"], before)
+    following = [it["next"] for it in facts]
+    judge("each names the next", following == ["kill_00002.ch11", "kill_00003.ch11", None], following)
 
 
 def noted_links(work: Path) -> str:

@@ -24,7 +24,7 @@ def flight(work: Path) -> Path:
         digest = hashlib.sha256(path.read_bytes()).hexdigest()
         named = {"recording": path.name, "sha256": digest, "bytes": path.stat().st_size, "before": before}
         facts: dict = {**facts_of_run(ORIGINS), "interfaces": [{"interface": "eth0", "channel": 1}]}
-        facts |= named
+        facts |= {**named, "next": f"flight_0000{number + 1}.ch11" if number < 3 else None}
         Path(f"{path}.json").write_text(json.dumps(facts))
         before = {"recording": path.name, "sha256": digest}
     recording_at(work / "flight_two_00001.ch11", [7], 1)
@@ -79,7 +79,14 @@ def test_check_has_one_answer_and_sees_what_is_missing(flight: Path) -> None:
     done = outcome(CHECK, flight)
     judge("yes", done.returncode == 0 and done.stdout.endswith("\nyes\n"), done)
     judge("in order", done.stdout.count("before right") == 2 and done.stdout.count("hash right") == 3, done)
-    parts_of(flight)[1].unlink()
+    first, middle, last = parts_of(flight)
+    kept = last.read_bytes()
+    last.unlink()
+    done = outcome(CHECK, flight)
+    judge("the last is missing", done.returncode == 1 and "\nnext missing: flight_00003.ch11\n" in done.stdout, done)
+    judge("which isn't asked of files by their names", outcome(CHECK, first, middle).returncode == 0)
+    last.write_bytes(kept)
+    middle.unlink()
     done = outcome(CHECK, flight)
     line = "before wrong: flight_00001.ch11, the facts say flight_00002.ch11\n"
     judge("one in the middle is missing", done.returncode == 1 and line in done.stdout, done)

@@ -23,13 +23,14 @@ class Before(NamedTuple):
 
 
 class Claims(NamedTuple):
-    """The recording's name, its SHA-256 and its length, which are None until it is hashed, and the recording before;
-    None of the first of a run."""
+    """The recording's name, its SHA-256 and its length, which are None until it is hashed, the recording before, None
+    of the first of a run, and the name of the next, None of the last."""
 
     name: str
     digest: Optional[str]
     length: Optional[int]
     before: Optional[Before]
+    following: Optional[str] = None
 
 
 def claims_in(data: bytes) -> Claims:
@@ -45,7 +46,10 @@ def claims_in(data: bytes) -> Claims:
     length = told.get("bytes")
     if length is not None and (type(length) is not int or length < 0):
         raise NoClaims("bytes is no length")
-    return Claims(told["recording"], digest_in(told, "sha256"), length, before_in(told.get("before")))
+    following = told.get("next")
+    if not isinstance(following, (str, type(None))):
+        raise NoClaims("next names no recording")
+    return Claims(told["recording"], digest_in(told, "sha256"), length, before_in(told.get("before")), following)
 
 
 def digest_in(told: dict[str, Any], key: str) -> Optional[str]:

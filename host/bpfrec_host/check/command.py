@@ -38,7 +38,9 @@ The facts beside FILE, FILE.json, are judged if they are there, or are asked for
   signature right: <signer> | signature none | signature wrong: <why>
   facts wrong: <why>
 `before` is the recording before in the same run, which has to be the FILE of that run that is given before this one; of
-the first FILE of each run it isn't asked for. So a recording that is missing in the middle is said.
+the first FILE of each run it isn't asked for. So a recording that is missing in the middle is said. One that is missing
+at the end of a run that was given by its name is said by the facts of the one before it:
+  next missing: <name>
 
 Then it prints a line for each packet that is wrong, with the place of its first byte:
   <at> data checksum <hex>, the words add up to <hex>     the packets behind it are checked too
@@ -91,7 +93,7 @@ def audit_is_right(path: str, is_quiet: bool) -> bool:
 
 def is_right(path: str, judge: Optional[Judge], given: argparse.Namespace) -> bool:
     """Judges a file, and the facts beside it where they are asked for; whether all is right."""
-    are_right = judge is None or judge.judge(path)
+    are_right = judge is None or judge.judge(path, path in given.last)
     if judge and not stat.S_ISREG(os.stat(path).st_mode):
         say("sums none: it is no regular file")
         return False
@@ -132,7 +134,10 @@ def arguments_of(arguments: list[str]) -> argparse.Namespace:
         made.error("standard input has no facts beside it")
     if given.identity is not None and given.signers is None:
         made.error("--identity needs --signers")
-    paths = [path for it in given.files for path in all_of(it)]
+    runs = [(it, in_order(all_of(it))) for it in given.files]
+    paths = [path for _, run in runs for path in run]
+    # The last recordings of the runs that are given by their names.
+    given.last = {run[-1] for name, run in runs if run != [name]}
     refuse_twice(it for it in paths if identity(it, 0))
     given.files = in_order(paths)
     return given

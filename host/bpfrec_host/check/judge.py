@@ -61,11 +61,12 @@ class Judge:
     def __init__(self, verifier: Optional[Verifier], out: Callable[[str], object]) -> None:
         self.verifier, self.out = verifier, out
         self.chain = Chain()
-        self.is_right = True
+        self.is_right, self.is_last = True, False
 
-    def judge(self, path: str) -> bool:
-        """Prints what the facts beside a recording come to; whether nothing of it is wrong."""
-        self.is_right = True
+    def judge(self, path: str, is_last: bool = False) -> bool:
+        """Prints what the facts beside a recording come to, which has to be the last one of its run or not; whether
+        nothing of it is wrong."""
+        self.is_right, self.is_last = True, is_last
         self.chain.move_to(place_of(path))
         content = content_of(path)
         if content is None:
@@ -109,6 +110,8 @@ class Judge:
             self.judge_content(claims, content)
             self.judge_name(claims, name_of(path))
             self.judge_before(claims)
+            if self.is_last and claims.following is not None:
+                self.wrong(f"next missing: {shown(claims.following)}")
         if self.verifier:
             self.judge_signature(self.verifier, facts, signature_path(facts_path(path)))
 

@@ -78,9 +78,11 @@ class Durability:
             about, noted, keeper = recorder.about, self.events.facts(recorder.about.feed), recorder.keeper
             keeper.write(lambda: self.writer.write(about, {**noted, "sync_fault": keeper.sync_fault}, None))
 
-    def end(self, recorder: Recorder, status: int, ended: Callable[[Optional[Entry]], None]) -> None:
-        """Has the last facts of a recording written, and its folder removed; `ended` is called behind that, and once it
-        was forced to its disk a last time, with the facts that were written."""
+    def end(
+        self, recorder: Recorder, status: int, following: Optional[str], ended: Callable[[Optional[Entry]], None]
+    ) -> None:
+        """Has the last facts of a recording written, which name the OUT that follows, and its folder removed; `ended`
+        is called after that, and once it was forced to its disk a last time, with the facts that were written."""
         self.events.read()
         about, noted, keeper = recorder.about, self.events.facts(recorder.about.feed), recorder.keeper
         is_written = bool(self.events.origins) and recorder.is_created
@@ -89,7 +91,8 @@ class Durability:
             facts = None
             try:
                 if is_written and keeper:
-                    facts = self.writer.write(about, {**noted, "sync_fault": keeper.sync_fault}, status)
+                    noted["sync_fault"] = keeper.sync_fault
+                    facts = self.writer.write(about, noted, status, following)
             finally:
                 self.writer.folder.remove(about.number)
                 self.loop.call_soon(lambda: ended(facts))

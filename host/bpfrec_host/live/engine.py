@@ -166,6 +166,10 @@ class Engine:
         self.perform(Deed.POINT_TO, self.current)
         self.perform(Deed.SWITCH_CAPTURE, self.current)
 
+    def following(self, recording: Recording) -> Optional[str]:
+        """The OUT of the recording that was begun after this one; None of the last."""
+        return None if recording is self.current else self.current.out
+
     def let_go(self) -> None:
         """Lets a recorder go on that waits for pipes which nobody will open any more, and does so again."""
         if self.is_open(self.current) and self.plan.has_interfaces:

@@ -129,10 +129,12 @@ class Writer:
             return ""
         return done.stdout.decode(errors="ignore")
 
-    def write(self, about: About, noted: Entry, status: Optional[int]) -> Entry:
-        """Writes the facts by what was noted, and returns them; the status is None while the recording goes on. An
-        OSError says that they can't be written; then those of before stay."""
-        facts = {**self.beginning(about), **noted, **self.ending(about, status)}
+    def write(self, about: About, noted: Entry, status: Optional[int], following: Optional[str] = None) -> Entry:
+        """Writes the facts by what was noted, and returns them; the status is None while the recording goes on, and
+        `following` the OUT of the next recording, where one has begun. An OSError says that they can't be written; then
+        those of before stay."""
+        following = following and os.path.basename(following)
+        facts = {**self.beginning(about), **noted, **self.ending(about, status), "next": following}
         facts["marks"] = marks_of(self.folder.of(about.number), noted["origins"])
         facts["origin_utc"] = utc_of_origin(noted["origins"])
         if status is not None:

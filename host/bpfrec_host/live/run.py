@@ -379,6 +379,7 @@ class Run:
         self.marks.concluded(recorder)
         self.observers.ended(recorder, status)
         kept, ended = approved(recorder, status), ended_of(recorder)
-        self.durability.end(recorder, status, lambda facts: self.ended.add(recording, kept, ended, facts))
+        following = self.machine.following(recording)
+        self.durability.end(recorder, status, following, lambda facts: self.ended.add(recording, kept, ended, facts))
         if recording is not self.machine.current:
             self.recordings.forget(recording)
