@@ -4,14 +4,14 @@ from __future__ import annotations
 
 import os
 from itertools import chain
-from typing import BinaryIO, Iterable, Iterator, NoReturn, Optional, Union
+from typing import BinaryIO, Callable, Iterable, Iterator, NoReturn, Optional, Union
 
 from bpfrec_host import printing
 from bpfrec_host.arguments import Parser, name_of
 from bpfrec_host.formats import ch11
 from bpfrec_host.program import audit_of
 from bpfrec_host.progress import Progress, size_of
-from bpfrec_host.streams import STREAM, Refused, Unreadable, force, force_folder_of, input_at, refuse_overwriting
+from bpfrec_host.streams import STREAM, Refused, force, force_folder_of, input_at, refuse_overwriting
 
 ABOUT = """\
 What is left of a recording that was cut or damaged: all packets that are whole, as they are.
@@ -36,7 +36,8 @@ and at last
 
 An OUT that exists is refused unless --force is given, and DAMAGED if no packet of it is whole. Then nothing is made.
 Places are counted in bytes from the beginning of DAMAGED. `bpfrec list` and `bpfrec extract` read OUT. When the last
-lines are printed, OUT is on its disk.
+lines are printed, OUT is on its disk. As DAMAGED `-` is standard input, and as OUT standard output; then the lines go
+to standard error.
 """
 MORE = """\
 It runs bpfrec: what BPFREC names, or the one beside it.
@@ -91,20 +92,23 @@ def salvage(damaged: BinaryIO, out: BinaryIO) -> bool:
     return copy(watched(damaged, True), out)
 
 
-def copy(pieces: Iterable[Piece], out: BinaryIO) -> bool:
-    """The same of what is read."""
+def printed(line: str) -> None:
+    """Prints a line on standard output."""
+    printing.out(f"{line}\n")
+
+
+def copy(pieces: Iterable[Piece], out: BinaryIO, say: Callable[[str], None] = printed) -> bool:
+    """The same of what is read; `say` takes the lines."""
     left, places, lost, is_missing = Left(), 0, 0, False
     for piece in pieces:
         if isinstance(piece, ch11.Damage):
-            printing.out(
-                f"lost {piece.length} at {piece.fault.at} after read {piece.fault.number} {piece.fault.name}\n"
-            )
+            say(f"lost {piece.length} at {piece.fault.at} after read {piece.fault.number} {piece.fault.name}")
             places, lost = places + 1, lost + piece.length
             continue
         out.write(piece.bytes)
         missing = left.take(piece)
         if missing:
-            printing.out(f"{missing}\n")
+            say(missing)
             is_missing = True
     force(out)
     told = left.lines()
@@ -112,7 +116,7 @@ def copy(pieces: Iterable[Piece], out: BinaryIO) -> bool:
     # By its descriptor, so that it may have any name, and another one meanwhile.
     told += [] if is_whole else [f"audit: {audit_of(f'/proc/self/fd/{out.fileno()}')}"]
     told.append(f"kept {left.packets} packets {left.bytes} bytes, lost {lost} bytes at {places} places")
-    printing.out("".join(f"{line}\n" for line in told))
+    say("\n".join(told))
     return is_whole
 
 
@@ -151,9 +155,8 @@ def run(arguments: list[str]) -> int:
     """Copies what is left of a recording: the status."""
     given = parser().parse_args(arguments)
     try:
-        if STREAM in (given.damaged, given.out):
-            raise Unreadable(f"{STREAM}: it is a standard stream, and salvage takes files")
-        with open(given.damaged, "rb") as damaged:
+        is_stream = given.damaged == STREAM
+        with open(0 if is_stream else given.damaged, "rb", closefd=not is_stream) as damaged:
             for path in (given.out, STREAM):
                 if input_at(path, [given.damaged]):
                     raise OSError(0, "it is DAMAGED itself", path)
@@ -166,7 +169,11 @@ def run(arguments: list[str]) -> int:
 
 
 def salvage_into(path: str, pieces: Iterable[Piece]) -> bool:
-    """Copies what is whole into a file; whose fault has its name, where it has no other."""
+    """Copies what is whole into a file, whose fault has its name where it has no other; or to standard output, where
+    lines are those of standard error."""
+    if path == STREAM:
+        with open(1, "wb", closefd=False) as out:
+            return copy(pieces, out, printing.err)
     is_new = not os.path.exists(path)
     try:
         with open(path, "wb") as out:

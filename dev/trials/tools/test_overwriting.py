@@ -147,12 +147,14 @@ def test_a_pipe_of_what_is_no_recording_is_refused_too(work: Path) -> None:
     )
 
 
-@pytest.mark.parametrize("words", ["own.ch11 -", "- out < own.ch11"])
-def test_salvage_takes_no_standard_stream(work: Path, words: str) -> None:
-    """It made a file of the name `-`."""
-    shutil.copy(SAMPLES[0], work / "own.ch11")
+@pytest.mark.parametrize("words", ["cut.ch11 out", "- out < cut.ch11", "cut.ch11 - > out", "- - < cut.ch11 > out"])
+def test_salvage_takes_standard_streams(work: Path, words: str) -> None:
+    """The lines are those of files; where standard output has OUT, standard error has them."""
+    (work / "cut.ch11").write_bytes(SAMPLES[1].read_bytes()[:-4])
     done = outcome("sh", "-c", f"{SALVAGE} {words}", cwd=work)
-    told = "bpfrec salvage: -: it is a standard stream, and salvage takes files\n"
-    judge(words, (done.returncode, done.stdout, done.stderr) == (3, "", told), done)
+    lines, nothing = (done.stdout, done.stderr) if ">" not in words else (done.stderr, done.stdout)
+    ends = "\nkept 3 packets 192 bytes, lost 52 bytes at 1 places\n"
+    judge(words, done.returncode == 1 and lines.endswith(ends) and not nothing, done)
+    judge("all that is whole", (work / "out").read_bytes() == SAMPLES[1].read_bytes()[:192])
     left = sorted(os.listdir(work))
-    judge("nothing is made", left == ["own.ch11", "private"], left)
+    judge("and no file of the name -", left == ["cut.ch11", "out", "private"], left)
