@@ -257,6 +257,28 @@ def test_arguments_that_make_no_setup_are_refused(recording: Path) -> None:
     judge("each is refused", True)
 
 
+@pytest.mark.parametrize(
+    "out, words, option",
+    [
+        ("pcapng", ("--facts", "x"), "--facts"),
+        ("pcapng", ORIGIN, "--origin"),
+        ("pcapng", ("--utc",), "--utc and --tai"),
+        ("pcapng", ("--tai", "0"), "--utc and --tai"),
+        ("pcapng", ("--external",), "--external"),
+        ("pcapng", ("--attribute", "P:1"), "--attribute"),
+        ("ch10", ("--from", "0.01"), "--from"),
+        ("ch10", ("--to", "0.01"), "--to"),
+        ("ch10", ("--channel", "1"), "--channel"),
+    ],
+)
+def test_an_option_of_what_out_does_not_become_is_refused(work: Path, out: str, words: tuple, option: str) -> None:
+    kinds = {"pcapng": "a capture", "ch10": "a whole Chapter 11 file"}
+    done = outcome(EXPORT, *words, "flight.ch11", f"flight.{out}", cwd=work)
+    (other,) = [kinds[it] for it in kinds if it != out]
+    line = f"{option} is for {other}, and OUT is {kinds[out]}\n"
+    judge(" ".join(words), done.returncode == 2 and done.stderr.endswith(line) and not done.stdout, done)
+
+
 def test_facts_that_say_no_times_are_refused(recording: Path) -> None:
     beside = with_facts(recording, UNKNOWN_SCALE)
     scale = "its scale is unknown: --utc says that it is UTC, and --tai 37 that it is 37 s ahead"

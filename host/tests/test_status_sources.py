@@ -4,12 +4,18 @@ from __future__ import annotations
 
 import json
 import re
-from typing import Any
+from collections.abc import Iterable
+from types import SimpleNamespace
+from typing import Any, NamedTuple, cast
 
 import pytest
 from bpfrec_host.formats.ch11.packet import Header
 from bpfrec_host.formats.clock_state import ClockState
-from bpfrec_host.live.ports import Counts, Setup
+from bpfrec_host.live.folder import Folder
+from bpfrec_host.live.observers import Observers
+from bpfrec_host.live.operands import Route
+from bpfrec_host.live.ports import Counts, Observer, Setup
+from bpfrec_host.live.recorder import Recorder
 from bpfrec_host.live.status import as_json, metrics
 from bpfrec_host.live.status.growth import Kept, kept_by
 from bpfrec_host.live.status.model import Model
@@ -193,3 +199,22 @@ def test_a_packet_has_as_many_frames_and_bytes_as_it_says(count: int) -> None:
     header = Header(7, 0, 4 + 12 * count + 61, 0, 0, 0, 0x68, 0)
     found = kept_by(header, count.to_bytes(4, "little"))
     judge("these", found == Kept(7, count, 61), found)
+
+
+class Begun(NamedTuple):
+    """An observer that keeps the channels of a recording that has begun."""
+
+    found: list[Setup]
+
+    def recording_begun(self, number: int, path: str, channels: Iterable[Setup], now: float) -> None:
+        self.found.extend(channels)
+
+
+def test_a_channel_is_observed_with_its_interface_its_filter_and_its_name() -> None:
+    folder = SimpleNamespace(
+        routes=[Route("eth0", 7)], names={7: "bus A"}, filter_names=lambda: {7: "udp port 5004", 8: "all"}
+    )
+    begun = Begun([])
+    recorder = SimpleNamespace(recording=SimpleNamespace(number=1), about=SimpleNamespace(out="f.ch11"))
+    Observers(cast(Observer, begun), cast(Folder, folder), print).begun(cast(Recorder, recorder))
+    judge("each", begun.found == [Setup(7, "eth0", "udp port 5004", "bus A"), Setup(8, None, "all")], begun.found)
