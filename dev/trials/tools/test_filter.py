@@ -114,6 +114,7 @@ def test_what_captures_do_not_go_with_is_refused(work: Path, capture: Path) -> N
         (["--every", "1", out, capture], 2, "--every is for interfaces"),
         (["--size", "1M", out, capture], 2, "--size is for interfaces"),
         (["--prefilter", out, capture], 2, "--prefilter is for interfaces"),
+        (["--require-clock", "1ms", out, capture], 2, "--require-clock is for interfaces"),
         ([out, work / "none.pcap"], 3, f"{work}/none.pcap: no such file"),
     ]
     os.mkfifo(work / "pipe.pcap")

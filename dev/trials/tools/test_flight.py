@@ -154,6 +154,8 @@ def test_a_channels_name_is_shown_beside_it_and_taken_for_it(folder: Path) -> No
     facts = json.loads((folder / "out.ch11.json").read_text())
     named = [{"interface": "one.pcap", "channel": 1, "name": "bus A"}, {"interface": "two.pcap", "channel": 2}]
     judge("in the facts", facts["interfaces"] == named, facts["interfaces"])
+    own = {"clock": "capture", "adapters": [], "synchronisation": {"begin": None, "end": None}}
+    judge("no clock of the host", {it: facts[it] for it in own} == own, facts)
     told = run(TOOLS / "info", "out.ch11", cwd=folder)
     judge("by info", "  bus A (one.pcap)" in told and "  two.pcap" in told, told)
     run(TOOLS / "export", "--channel", "bus A", "out.ch11", "a.pcapng", cwd=folder)

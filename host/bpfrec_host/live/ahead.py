@@ -101,7 +101,12 @@ def refuse_signing(given: Arguments) -> None:
 
 def refuse_captures(given: Arguments) -> None:
     """Refuses options that captures don't go with, and captures that aren't files, of which the origin isn't known."""
-    live_alone = {"--every": given.every, "--size": given.size, "--prefilter": given.is_prefiltered or None}
+    live_alone = {
+        "--every": given.every,
+        "--size": given.size,
+        "--prefilter": given.is_prefiltered or None,
+        "--require-clock": given.clock_error,
+    }
     asked = [option for option, value in live_alone.items() if value is not None]
     if given.reads_captures() and asked:
         raise Refusal(2, f"bpfrec live: {asked[0]} is for interfaces")

@@ -83,6 +83,8 @@ class Arguments(NamedTuple):
 
     def clock(self) -> str:
         """Whose times the frames have."""
+        if self.reads_captures():
+            return "capture"
         given = [it for at, it in enumerate(self.options) if at and self.options[at - 1] == "--clock"]
         return "adapter" if given[-1:] == ["adapter"] else "host"
 

@@ -70,8 +70,10 @@ class Writer:
             "clock": self.given.clock(),
             "prefilter": self.given.is_prefiltered,
             "origin_utc": None,
-            "adapters": [adapter_of(it.interface, self.given.clock()) for it in self.given.routes],
-            "synchronisation": {"begin": synchronisation(), "end": None},
+            "adapters": [
+                adapter_of(it.interface, self.given.clock()) for it in self.given.routes if not it.is_capture()
+            ],
+            "synchronisation": {"begin": self.synchronisation(), "end": None},
             "interfaces": [self.interface_of(it) for it in self.given.routes],
             "settings": self.folder.text,
             "spans": [{"channel": channel, "span": span} for channel, span in self.folder.spans.items()],
@@ -82,6 +84,10 @@ class Writer:
         except OSError:
             pass
         return made
+
+    def synchronisation(self) -> Optional[Entry]:
+        """What holds the host's clock right; None where no frame has a time of it."""
+        return None if self.given.reads_captures() else synchronisation()
 
     def interface_of(self, route: Route) -> Entry:
         """Which interface is which channel, with the channel's name where it has one."""
@@ -138,7 +144,7 @@ class Writer:
         facts["marks"] = marks_of(self.folder.of(about.number), noted["origins"])
         facts["origin_utc"] = utc_of_origin(noted["origins"])
         if status is not None:
-            facts["synchronisation"] = {**facts["synchronisation"], "end": synchronisation()}
+            facts["synchronisation"] = {**facts["synchronisation"], "end": self.synchronisation()}
         replace(facts_path(about.out), self.files, encoded(facts))
         return facts
 

@@ -245,7 +245,8 @@ class Run:
         recorder.let_live()
         self.machine.opened(recorder.recording)
         self.end_of_run.begin()
-        self.clock.begin()
+        if not self.given.reads_captures():
+            self.clock.begin()
         self.observers.begun(recorder)
         self.notifier.ready(recorder.about.out)
         self.durability.begin(recorder)
