@@ -9,3 +9,5 @@ pub mod Waits
 pub mod StreamWrites
 pub mod OneStream
 pub mod EachPacket
+pub mod StreamKeeps
+pub mod StreamsReadBack

@@ -1,7 +1,6 @@
 -- A recording that is written as a stream, packet after packet.
-use Rattle.std.proofs.Common.{ℕ, List, [], Option, inl, refl}
+use Rattle.std.proofs.Common.{ℕ, List, Option, inl}
 use Rattle.std.specs.Prelude.{Ok, Err, Result, MatchResult}
-use Rattle.std.proofs.KnownBytes.{Appends-nil}
 use Rattle.ch11_clock.specs.declared.origin.Origin.{Origin as ClockOrigin}
 use Rattle.ch11_file.specs.declared.setup.FileSetup.{FileSetup}
 use Rattle.rec_reader.specs.Packets.{PacketData}
@@ -12,7 +11,6 @@ use Rattle.rec_stream.specs.declared.end.StreamEnd.{StreamEnd}
 use Rattle.rec_stream.specs.declared.end.StreamEnd.TheVariants.{Memory}
 use Rattle.rec_stream.specs.declared.stage.Stage.{Stage}
 use Rattle.rec_stream.specs.StreamBlocks.{StreamFacts}
-use Rattle.rec_stream.specs.Streams.StreamStage.{Waiting}
 use Rattle.rec_stream.specs.StreamChannels.{IsStreamSetup}
 use Rattle.rec_stream.specs.StreamEnds.{PacketsFail, StreamFails, WritesPackets, WritesStream, stream_facts}
 use Rattle.rec_stream.specs.SentStates.{StreamSent}

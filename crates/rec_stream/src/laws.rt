@@ -1,15 +1,24 @@
 //! Laws of streams, with nothing to run.
 
-ghost use Rattle.std.specs.Prelude.{◌≡◌, ◌++◌, [], List};
+ghost use Rattle.std.specs.Prelude.{ℕ, ◌≡◌, ◌≢◌, ◌++◌, [], List, Option, None};
 ghost use Rattle.std.specs.List.{AllByRecursion};
 ghost use Rattle.ch11_clock.specs.Clock.{IsClock};
-ghost use Rattle.ch11_file.specs.FileBlocks.{FileBlock};
+ghost use Rattle.ch11_merge.specs.Kept.{held_of};
+ghost use Rattle.ch11_file.specs.FileBlocks.{FileBlock, file_bytes, merged_in};
 ghost use Rattle.ch11_file.specs.WholeFile.{AreNumbered};
 ghost use Rattle.ch11_file.specs.FilesRead.{IsValidPacket, TellsClock};
 ghost use Rattle.rec_reader.specs.Packets.{PacketData};
-ghost use Rattle.rec_stream.specs.StreamBlocks.{StreamFacts};
+ghost use Rattle.rec_reader.specs.declared.fault.ReadFaultKind.{ReadFaultKind};
+ghost use Rattle.rec_reader.specs.Reading.{Reads};
+ghost use Rattle.rec_reader.specs.ChannelFrames.{channel_frames};
+ghost use Rattle.rec_whole.specs.WholeFrames.{file_frames, held_in_packets};
+ghost use Rattle.rec_stream.specs.StreamBlocks.{StreamFacts, StreamState};
 ghost use Rattle.rec_stream.specs.Streams.{StreamStage, AreStream};
-ghost use Rattle.rec_stream.specs.StreamsRead.{HasSetupText};
+ghost use Rattle.rec_stream.specs.Streams.StreamStage.{Begun};
+ghost use Rattle.rec_stream.specs.StreamsRead.{HasSetupText, counted, uncounted};
+
+use rec_pieces::pieces_hold_the_frames_of_a_channel;
+use rec_reader::bytes_have_one_reading;
 
 /// Law: what goes out for the first packets of a recording begins what goes out for all of them. So packets have one
 /// stream.
@@ -19,6 +28,40 @@ pub fn a_stream_grows_with_its_recording()
         → AreStream facts (packets ++ more) others last → AreNumbered [] blocks → AreNumbered [] others
         → (rest : List FileBlock) × (others ≡ blocks ++ rest) }
 {}
+
+/// Law: a stream has of each channel the frames of its recording, in order and once each; and the same of all that has
+/// a counter, frames, programs and ends beside each other. Of a stream that has begun it is so of the ends without one
+/// too, which may have waited.
+pub fn a_stream_keeps_each_channel()
+    ensures frames { (facts : StreamFacts) (packets : List PacketData) (blocks : List FileBlock) (stage : StreamStage)
+        → AreStream facts packets blocks stage → (channel : ℕ) → channel ≢ 0
+        → file_frames channel blocks ≡ channel_frames channel packets }
+    ensures counted { (facts : StreamFacts) (packets : List PacketData) (blocks : List FileBlock) (stage : StreamStage)
+        → AreStream facts packets blocks stage → (channel : ℕ)
+        → counted (held_of channel (merged_in blocks)) ≡ counted (held_in_packets channel packets) }
+    ensures uncounted { (facts : StreamFacts) (packets : List PacketData) (blocks : List FileBlock) (state : StreamState)
+        → AreStream facts packets blocks (Begun state) → (channel : ℕ)
+        → uncounted (held_of channel (merged_in blocks)) ≡ uncounted (held_in_packets channel packets) }
+{
+    pieces_hold_the_frames_of_a_channel();
+}
+
+/// Law: the bytes of a stream are read to their end, and in no other way; and what is read has of each channel the frames
+/// of the recording, in order and once each.
+pub fn a_stream_is_read_back()
+    ensures read { (recording : List ℕ) (facts : StreamFacts) (packets : List PacketData) (blocks : List FileBlock)
+        (stage : StreamStage) → Reads recording packets None → AreStream facts packets blocks stage
+        → (found : List PacketData) × Reads (file_bytes blocks) found None }
+    ensures frames { (recording : List ℕ) (facts : StreamFacts) (packets : List PacketData) (blocks : List FileBlock)
+        (stage : StreamStage) → Reads recording packets None → AreStream facts packets blocks stage
+        → (found : List PacketData) (fault : Option ReadFaultKind) → Reads (file_bytes blocks) found fault
+        → (fault ≡ None) × ((channel : ℕ) → channel ≢ 0
+        → channel_frames channel found ≡ channel_frames channel packets) }
+{
+    a_stream_keeps_each_channel();
+    pieces_hold_the_frames_of_a_channel();
+    bytes_have_one_reading();
+}
 
 /// Law: each packet of a stream has a valid header with its length, and a right data checksum.
 pub fn a_stream_is_well_formed()
