@@ -11,3 +11,4 @@ pub mod OneStream
 pub mod EachPacket
 pub mod StreamKeeps
 pub mod StreamsReadBack
+pub mod NoneIsLate

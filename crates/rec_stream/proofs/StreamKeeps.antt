@@ -58,7 +58,7 @@ left_of channel own end pieces = here (own == channel) refl pieces
         ap (λ (b : Bool). (if b then held_in p else []) ++ held_left channel (map (stream_piece own end) ps)) same ∙ here false same ps
 
 -- what goes out of a piece, and what stays
-part_held : (tick : ℕ) (piece : FilePiece) → held_in (part_before tick piece) ++ flat_map held_in (part_from tick piece) ≡ held_in piece
+pub part_held : (tick : ℕ) (piece : FilePiece) → held_in (part_before tick piece) ++ flat_map held_in (part_from tick piece) ≡ held_in piece
 part_held tick piece =
     ap (λ l. held_in (part_before tick piece) ++ flat_map held_in l) (sym (append-nil (part_from tick piece)))
     ∙ takes_held tick (piece ∷ []) (part_before tick piece) (part_from tick piece ++ []) (refl, refl)
@@ -150,7 +150,7 @@ counted_packet channel (Some (own, kind)) place counter least bytes is = here (o
     here true = pieces_counted kind own place counter least bytes is
     here false = tt
 
-lesser_some : (counter : ℕ) (other : Option ℕ) → lesser (Some counter) other ≡ None → ⊥
+pub lesser_some : (counter : ℕ) (other : Option ℕ) → lesser (Some counter) other ≡ None → ⊥
 lesser_some counter None is = none-some counter (sym is)
 lesser_some counter (Some other) is = none-some _ (sym is)
 

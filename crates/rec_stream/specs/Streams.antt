@@ -88,6 +88,15 @@ late_behind greatest [] = 0
 late_behind greatest (b ∷ blocks) =
     late_of greatest b.content b.counter + late_behind (max greatest b.counter) blocks
 
+-- the least counter of the first packet that has one
+abbrev pub first_some : (first rest : Option ℕ) → Option ℕ
+first_some None rest = rest
+first_some (Some least) rest = Some least
+
+abbrev pub first_least : List PacketData → Option ℕ
+first_least [] = None
+first_least (packet ∷ packets) = first_some (least_of (packet_counters packet)) (first_least packets)
+
 -- whether a packet is of another kind
 abbrev pub is_other_packet : Option (ℕ × PieceKind) → Bool
 is_other_packet None = true

@@ -1,10 +1,11 @@
 //! Laws of streams, with nothing to run.
 
-ghost use Rattle.std.specs.Prelude.{ℕ, ◌≡◌, ◌≢◌, ◌++◌, [], List, Option, None};
+ghost use Rattle.std.specs.Prelude.{ℕ, ◌≡◌, ◌≢◌, ◌++◌, [], List, Option, None, IfSome, ℤ};
 ghost use Rattle.std.specs.List.{AllByRecursion};
 ghost use Rattle.ch11_clock.specs.Clock.{IsClock};
 ghost use Rattle.ch11_merge.specs.Kept.{held_of};
 ghost use Rattle.ch11_file.specs.FileBlocks.{FileBlock, file_bytes, merged_in};
+ghost use Rattle.ch11_file.specs.FileTimes.{IsFirstTime};
 ghost use Rattle.ch11_file.specs.WholeFile.{AreNumbered};
 ghost use Rattle.ch11_file.specs.FilesRead.{IsValidPacket, TellsClock};
 ghost use Rattle.rec_reader.specs.Packets.{PacketData};
@@ -12,8 +13,10 @@ ghost use Rattle.rec_reader.specs.declared.fault.ReadFaultKind.{ReadFaultKind};
 ghost use Rattle.rec_reader.specs.Reading.{Reads};
 ghost use Rattle.rec_reader.specs.ChannelFrames.{channel_frames};
 ghost use Rattle.rec_whole.specs.WholeFrames.{file_frames, held_in_packets};
+ghost use Rattle.rec_pieces.specs.Listings.{counters_of};
+ghost use Rattle.rec_stream.specs.LatePieces.{IsNear, NeverFarBack};
 ghost use Rattle.rec_stream.specs.StreamBlocks.{StreamFacts, StreamState};
-ghost use Rattle.rec_stream.specs.Streams.{StreamStage, AreStream};
+ghost use Rattle.rec_stream.specs.Streams.{StreamStage, AreStream, first_least, late_behind};
 ghost use Rattle.rec_stream.specs.Streams.StreamStage.{Begun};
 ghost use Rattle.rec_stream.specs.StreamsRead.{HasSetupText, counted, uncounted};
 
@@ -62,6 +65,16 @@ pub fn a_stream_is_read_back()
     pieces_hold_the_frames_of_a_channel();
     bytes_have_one_reading();
 }
+
+/// Law: no piece of a stream is late where no counter of its recording is over a second less than one ahead of it, or
+/// than that of the first time packet.
+pub fn no_piece_of_a_steady_stream_is_late()
+    ensures { (facts : StreamFacts) (packets : List PacketData) (blocks : List FileBlock) (stage : StreamStage)
+        → AreStream facts packets blocks stage → NeverFarBack (counters_of packets)
+        → IfSome (first_least packets) (λ (least : ℕ). (moment : ℤ) (tick : ℕ)
+        → IsFirstTime least facts.rules moment tick → AllByRecursion (IsNear tick) (counters_of packets))
+        → late_behind 0 blocks ≡ 0 }
+{}
 
 /// Law: each packet of a stream has a valid header with its length, and a right data checksum.
 pub fn a_stream_is_well_formed()

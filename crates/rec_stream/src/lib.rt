@@ -24,8 +24,8 @@ pub use counts::StreamCounts;
 pub use end::{StreamEnd, StreamRefusal};
 pub use laws::{
     a_stream_grows_with_its_recording, a_stream_is_read_back, a_stream_is_well_formed,
-    a_stream_keeps_each_channel, setup_records_of_a_stream_say_its_channels,
-    times_of_a_stream_are_the_clocks,
+    a_stream_keeps_each_channel, no_piece_of_a_steady_stream_is_late,
+    setup_records_of_a_stream_say_its_channels, times_of_a_stream_are_the_clocks,
 };
 pub use limits::SETUP_TICKS;
 pub use writing::write_stream;
