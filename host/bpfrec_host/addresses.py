@@ -10,7 +10,7 @@ from typing import Any, NamedTuple, Optional, Union
 
 from bpfrec_host.arguments import natural
 from bpfrec_host.formats.limits import MAX_BYTE
-from bpfrec_host.formats.transfer import MAX_DATAGRAM_LEN, MIN_DATAGRAM_LEN
+from bpfrec_host.formats.transfer import DATAGRAM_STEP, MAX_DATAGRAM_LEN, MIN_DATAGRAM_LEN
 
 WORD = re.compile(
     r"(?:(?P<plain>[0-9.]{7,15})|\[(?P<bracketed>[0-9a-fA-F:.]{2,45})(?:%(?P<zone>[^\]\s/%]{1,15}))?\])"
@@ -70,6 +70,7 @@ def ttl_of(word: str) -> int:
 def length_of(word: str) -> int:
     """The length of a datagram that a word says."""
     number = natural(word)
-    if not MIN_DATAGRAM_LEN <= number <= MAX_DATAGRAM_LEN:
-        raise argparse.ArgumentTypeError(f"{word} is no number from {MIN_DATAGRAM_LEN} to {MAX_DATAGRAM_LEN}")
+    if not MIN_DATAGRAM_LEN <= number <= MAX_DATAGRAM_LEN or number % DATAGRAM_STEP:
+        limits = f"from {MIN_DATAGRAM_LEN} to {MAX_DATAGRAM_LEN}"
+        raise argparse.ArgumentTypeError(f"{word} is no multiple of {DATAGRAM_STEP} {limits}")
     return number

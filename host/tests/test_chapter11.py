@@ -3,7 +3,6 @@ is played."""
 
 from __future__ import annotations
 
-import json
 import os
 import shutil
 import signal
@@ -16,15 +15,15 @@ import tomllib
 from bpfrec_host.formats import facts
 from bpfrec_host.info.as_json import object_of
 from bpfrec_host.info.contents import read
-from expected_facts import TAI_37, THREE_ORIGINS, UNKNOWN_SCALE, facts_of_run
+from expected_facts import UNKNOWN_SCALE
 from frames import FRAMES, body_of, packet_of
 from reading import SAMPLES
+from setups import CHAPTER11, setup_by, with_facts
 from support import EXPORT, judge, judge_quietly, nanoseconds, outcome
 from whole_file import Origin, Setup, whole_file
 from whole_file_parts import SECOND, faults_of, sample_recording
 
 WANTED: dict[str, str] = {}
-CHAPTER11 = (EXPORT, "--as=chapter11")
 # Plays the program: what it is given, and how it ends.
 PLAYED = """#!/bin/sh
 printf '%s\\n' "$@" > "$(dirname "$0")/given"
@@ -44,13 +43,6 @@ def recording(work: Path) -> Path:
     return Path(shutil.copy(SAMPLES[1], work / "flight.ch11"))
 
 
-def with_facts(recording: Path, origins: list, **more: Any) -> Path:
-    """Has these origins, and more, in the facts beside a recording."""
-    beside = recording.with_name(recording.name + ".json")
-    beside.write_text(json.dumps({**facts_of_run(origins), **more}))
-    return beside
-
-
 def by(recording: Path, *words: object, plays: str = "", **more: Any) -> subprocess.CompletedProcess:
     """Runs the tool beside a played program."""
     played = recording.with_name("played")
@@ -60,71 +52,12 @@ def by(recording: Path, *words: object, plays: str = "", **more: Any) -> subproc
     return outcome(*CHAPTER11, *words, env=env, cwd=recording.parent, **more)
 
 
-def setup_by(recording: Path, *words: object) -> dict[str, Any]:
-    """SETUP, as it is printed and read by TOML's rules."""
-    done = outcome(*CHAPTER11, "--print-setup", *words, recording, env={**os.environ, "BPFREC": "/none"})
-    judge_quietly("it is printed", (done.returncode, done.stderr) == (0, ""), done)
-    return tomllib.loads(done.stdout)
-
-
 # ---- SETUP
-
-
-def origins(*pairs: tuple[int, str]) -> list[dict[str, object]]:
-    return [{"counter": counter, "origin": origin} for counter, origin in pairs]
-
-
-LISTS: dict[str, tuple[list, list[str], list]] = {
-    "one": (ONE, [], origins((0, "1764590400.250000000"))),
-    "a clock that was set": (
-        THREE_ORIGINS,
-        [],
-        origins((0, "1764590400.250000000"), (32, "1764586800.250000123")),
-    ),
-    "a clock that ran TAI": (TAI_37, [], origins((0, "1764590400.250000000"), (17, "1764590400.250000123"))),
-    "of a scale that is said to be UTC": (UNKNOWN_SCALE, ["--utc"], origins((0, "1764590400.250000000"))),
-    "and TAI": (UNKNOWN_SCALE, ["--tai", "37"], origins((0, "1764590363.250000000"))),
-    "what is said is of an unknown scale alone": (
-        [*TAI_37, ("1764590437.250000124", 18, None, None)],
-        ["--tai", "36"],
-        origins((0, "1764590400.250000000"), (17, "1764590400.250000123"), (18, "1764590401.250000124")),
-    ),
-    "a scale that came to be known": (
-        [("1764590437.250000000", 0, None, None), ("1764590437.250000000", 0, None, "TAI", 37)],
-        [],
-        origins((0, "1764590400.250000000")),
-    ),
-    "the first holds from 0 on": (
-        [("5.000000000", 10, None), ("6.000000000", 7, None), ("7.000000000", 7, None)],
-        [],
-        origins((0, "5.000000000"), (7, "7.000000000")),
-    ),
-    "the first holds for no counter": (
-        [("5.000000000", 10, None), ("6.000000000", 0, None)],
-        [],
-        origins((0, "6.000000000")),
-    ),
-    "before 1970": ([("-0.000000001", 0, None)], [], origins((0, "-0.000000001"))),
-    "TAI that begins in 1970": ([("36.500000000", 0, None, "TAI", 37)], [], origins((0, "-0.500000000"))),
-    "the last counter": (
-        [*ONE, ("7.000000000", 2**48 - 1, None)],
-        [],
-        origins((0, ONE[0][0]), (2**48 - 1, "7.000000000")),
-    ),
-}
-
-
-@pytest.mark.parametrize("name", LISTS)
-def test_origins_are_those_of_the_facts_in_utc(recording: Path, name: str) -> None:
-    noted, words, due = LISTS[name]
-    with_facts(recording, noted)
-    found = setup_by(recording, *words)
-    judge(name, found["origins"] == due, found)
 
 
 def test_without_facts_the_origin_is_given(recording: Path) -> None:
     for text in ("0", "1764590400", "-1.5", "1764590400.250000123", "999999999999.999999999"):
-        judge_quietly(text, setup_by(recording, "--origin", text) == {"origin": text})
+        judge_quietly(text, setup_by(recording, "--origin", text) == {"origin": text, "channel": [{"id": 1}]})
     for text in ("", "1.", ".5", "1.0000000000", "1000000000000", "+1", "1e3", "now", "2025-12-01T12:00:00Z", "1\n"):
         done = outcome(*CHAPTER11, f"--origin={text}", recording, "out")
         judge_quietly(repr(text), done.returncode == 2 and "is no time in seconds since 1970" in done.stderr, done)
@@ -141,8 +74,8 @@ def test_names_are_those_of_the_facts(recording: Path) -> None:
     with_facts(recording, ONE, host="b\u00fcch \ud800;", program="bpfrec 0.1.0", interfaces=interfaces)
     found = setup_by(recording)
     judge("the host and the program", (found["host"], found["program"]) == ("b\u00fcch \ufffd;", "bpfrec 0.1.0"), found)
-    channels = [{"id": 1, "name": 'wing "left"\\ \u00e9\x7f\ufffd'}, {"id": 9, "name": "eth1"}]
-    judge("the interfaces, by their channels", found["channel"] == channels, found["channel"])
+    channels = [{"id": 1, "name": 'wing "left"\\ \u00e9\x7f\ufffd'}]
+    judge("the interfaces of its channels", found["channel"] == channels, found["channel"])
     for program in (None, 7, "x" * 256):
         with_facts(recording, ONE, program=program)
         judge_quietly(f"no program: {program!r:.9}", "program" not in setup_by(recording))
@@ -162,13 +95,19 @@ def test_network_identifiers_are_those_of_frames(recording: Path) -> None:
     later = packet_of(3, body_of([(2, 9 << 16, bytes(60))]), 1, FRAMES, 5, True)
     recording.write_bytes(recording.read_bytes() + other + b"".join(packets) + later)
     with_facts(recording, ONE, interfaces=[{"interface": "eth0", "channel": 3}, {"interface": "eth1", "channel": 8}])
-    due = [{"id": 3, "name": "eth0", "net": 7}, {"id": 8, "name": "eth1"}, {"id": 65_535, "net": 255}]
+    due = [
+        {"id": 1},
+        {"id": 3, "name": "eth0", "net": 7},
+        {"id": 5},
+        {"id": 8, "name": "eth1"},
+        {"id": 65_535, "net": 255},
+    ]
     judge("with facts", setup_by(recording)["channel"] == due, setup_by(recording))
     recording.with_name("flight.ch11.json").unlink()
-    due = [{"id": 3, "net": 7}, {"id": 65_535, "net": 255}]
+    due = [{"id": 1}, {"id": 3, "net": 7}, {"id": 5}, {"id": 8}, {"id": 65_535, "net": 255}]
     judge("and without", setup_by(recording, *ORIGIN)["channel"] == due)
     recording.write_bytes(recording.read_bytes()[:-400])
-    judge("up to a damaged place", setup_by(recording, *ORIGIN).get("channel") is None)
+    judge("up to a damaged place", 65_535 not in [it["id"] for it in setup_by(recording, *ORIGIN)["channel"]])
 
 
 def test_what_the_command_line_says_stands_in_setup(recording: Path) -> None:
@@ -190,10 +129,15 @@ def test_facts_may_be_another_file(recording: Path) -> None:
     judge("standard input", tomllib.loads(done.stdout)["host"] == "one", done)
 
 
+def utc_of(origin: dict[str, Any]) -> int:
+    """The time of an origin of SETUP, in nanoseconds since 1970."""
+    return nanoseconds(*origin["origin"].split(".")) - origin.get("tai_offset", 0) * 10**9
+
+
 def file_by(recording: Path) -> bytes:
     """The file that the second writer makes by SETUP."""
     setup = setup_by(recording)
-    held = tuple(Origin(it["counter"], nanoseconds(*it["origin"].split("."))) for it in setup["origins"])
+    held = tuple(Origin(it["counter"], utc_of(it)) for it in setup["origins"])
     channels = {it["id"]: (it.get("name", "channel"), it.get("net", 0)) for it in setup["channel"]}
     return bytes(
         whole_file(recording.read_bytes(), Setup(held, setup["host"], setup["program"], channels=channels)).data
@@ -247,7 +191,7 @@ def test_arguments_that_make_no_setup_are_refused(recording: Path) -> None:
         [recording],
         ["--facts", "x", *ORIGIN, recording, "out"],
         ["--utc", "--tai", "37", recording, "out"],
-        ["--tai", "100001", recording, "out"],
+        ["--tai", "256", recording, "out"],
         ["--tai", "-1", recording, "out"],
         *(["--attribute", it, recording, "out"] for it in ("G\\SC", ":U", "a:b;", "a:\u00e9", "a:b\n", "\u00e9:b", "")),
     ]

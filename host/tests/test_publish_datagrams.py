@@ -4,6 +4,7 @@ from __future__ import annotations
 
 import random
 import struct
+import time
 from pathlib import Path
 from typing import NamedTuple
 
@@ -71,7 +72,7 @@ def drawn_packets(draw: random.Random) -> list[bytes]:
 @pytest.mark.parametrize("seed", SEEDS)
 def test_datagrams_have_all_packets_in_order(seed: int) -> None:
     draw = random.Random(seed)
-    packets, most = drawn_packets(draw), draw.choice([36, 37, 100, 1_472, 65_507])
+    packets, most = drawn_packets(draw), draw.choice([64, 100, 1_472, 65_504])
     datagrams = sent(packets, most, draw.choice([1, 3, 100]))
     judge_quietly("none is longer", max(map(len, datagrams)) <= most)
     read_in = [read(it) for it in datagrams]
@@ -106,6 +107,22 @@ def test_the_headers_have_these_bytes() -> None:
     judge("a part that begins a packet", found[0][:12].hex() == "110500000201" "0a0000000000", found[0][:12].hex())
     judge("the next", found[1][:12].hex() == "110600000201" "0a0018000000", found[1][:12].hex())
     judge("whole packets", found[2][:4].hex() == "01070000", found[2][:4].hex())
+
+
+def test_in_a_silence_a_datagram_without_a_packet_goes_out_each_second(monkeypatch: pytest.MonkeyPatch) -> None:
+    now = [100.0]
+    monkeypatch.setattr(time, "monotonic", lambda: now[-1])
+    found: list[bytes] = []
+    datagrams = Datagrams(1_472, found.append)
+    for moment, count in ((100.9, 0), (101.0, 1), (101.9, 1), (102.0, 2), (102.5, 3), (103.4, 3), (103.5, 4)):
+        now.append(moment)
+        if moment == 102.5:
+            datagrams.add(packet_of(1, bytes(68), 0, 0x68, 0, True))
+            datagrams.flush()
+        datagrams.beat()
+        judge_quietly(f"{moment}", len(found) == count, len(found))
+    judge("with the next numbers", [it[:4].hex() for it in found] == ["01000000", "01010000", "01020000", "01030000"])
+    judge("and nothing else", [len(it) for it in found] == [4, 4, 100, 4] and datagrams.packets == 1)
 
 
 # ---- the window
@@ -224,7 +241,7 @@ def test_packets_of_which_all_came_are_whole(seed: int) -> None:
     """Whatever is lost, those that it didn't touch come once and in order, and nothing else."""
     draw = random.Random(seed)
     packets = drawn_packets(draw)
-    datagrams = sent(packets, draw.choice([36, 200, 1_472]), draw.choice([1, 3]))
+    datagrams = sent(packets, draw.choice([64, 200, 1_472]), draw.choice([1, 3]))
     packets_found, damaged, _ = assembled(datagrams)
     judge_quietly("all, where nothing is lost", packets_found == packets and damaged == 0, damaged)
     gone = {it for it in range(len(datagrams)) if draw.random() < 0.05}
@@ -262,7 +279,8 @@ def test_what_has_no_transfer_header_is_none() -> None:
     whole, part = b"\x01\x05\0\0" + bytes(8), bytes.fromhex("11050000 0201 0a 00 18000000 ff")
     judge("whole packets", datagram_in(whole) == Datagram(5, None, bytes(8)))
     judge("a part", datagram_in(part) == Datagram(5, Part(0x0102, 10, 24), b"\xff"))
-    for data in (b"", b"\x01\0\0", whole[:4], part[:12], b"\x02" + whole[1:], b"\x21" + whole[1:], b"\x10" + part[1:]):
+    judge("no packet", datagram_in(whole[:4]) == Datagram(5, None, b""))
+    for data in (b"", b"\x01\0\0", part[:12], b"\x02" + whole[1:], b"\x21" + whole[1:], b"\x10" + part[1:]):
         judge_quietly(data.hex(), datagram_in(data) is None)
     judge("zeros that are none", datagram_in(part[:7] + b"\x01" + part[8:]) is None)
 
@@ -280,35 +298,26 @@ def given_to(files: Files, data: bytes) -> None:
         at += length
 
 
-def changed(data: bytes) -> bytes:
-    """The packets of a file whose setup record says that it has changed."""
-    first, *rest = parts_of(data)
-    word = (int.from_bytes(first.data[:4], "little") | 1 << 8).to_bytes(4, "little")
-    return b"".join(it.bytes() for it in (first._replace(data=word + first.data[4:]), *rest))
-
-
-def test_a_file_begins_with_its_setup_record_which_stands_once(work: Path) -> None:
+def test_a_file_is_the_stream(work: Path) -> None:
+    """From its first setup record on, with those that are repeated."""
     files = Files(str(work / "out.ch10"), False)
     data = sample()
     setup = data[: int.from_bytes(data[4:8], "little")]
     given_to(files, data[len(setup) :][:40])
     given_to(files, data + setup)
     files.end()
-    judge("its bytes", (work / "out.ch10").read_bytes() == data)
+    judge("its bytes", (work / "out.ch10").read_bytes() == data + setup)
     judge("what is ahead of a first one is skipped", (files.skipped, data[15]) == (1, SETUP), files.skipped)
 
 
 def test_what_came_ahead_of_a_setup_record_is_behind_it_in_the_file(work: Path) -> None:
-    """A record that is repeated: its file is as it would be if the first one had come, but for the first's counter."""
-    parts = parts_of(sample())
-    setup, rest = parts[0], parts[1:]
-    at = [number for number, it in enumerate(rest) if it.channel == 0][1]
-    repeated = setup._replace(sequence=rest[at].sequence)
-    behind = [it._replace(sequence=it.sequence + 1) if it.channel == 0 else it for it in rest[at:]]
+    """A record that is repeated, since the first one was lost."""
+    setup, *rest = (it.bytes() for it in parts_of(sample()))
+    repeated = parts_of(setup)[0]._replace(sequence=7).bytes()
     files = Files(str(work / "out.ch10"), False)
-    given_to(files, b"".join(it.bytes() for it in (*rest[:at], repeated, *behind)))
+    given_to(files, b"".join([*rest[:5], repeated, *rest[5:]]))
     files.end()
-    judge("all packets", parts_of((work / "out.ch10").read_bytes()) == parts and files.skipped == 0, files.skipped)
+    judge("all packets", (work / "out.ch10").read_bytes() == b"".join([repeated, *rest]) and files.skipped == 0)
 
 
 def test_what_waits_for_a_setup_record_is_bounded(work: Path, monkeypatch: pytest.MonkeyPatch) -> None:
@@ -322,7 +331,7 @@ def test_another_recording_has_another_file(work: Path) -> None:
     (work / "out_00002.ch10").write_text("another's")
     files = Files(str(work / "out.ch10"), False)
     one, two = sample(), replaced("eth5", "eth6")(sample())
-    three = changed(replaced("eth6", "eth7")(two))
+    three = replaced("eth6", "eth7")(two)
     for data in (one, two, three):
         given_to(files, data)
     judge("it has ended", files.restart())
@@ -330,8 +339,9 @@ def test_another_recording_has_another_file(work: Path) -> None:
     files.end()
     judge("the first", (work / "out.ch10").read_bytes() == one)
     judge("one that is there is left", (work / "out_00002.ch10").read_text() == "another's")
-    judge("a channel that comes later is no other recording", (work / "out_00003.ch10").read_bytes() == two + three)
-    judge("a stream that begins anew is one", (work / "out_00004.ch10").read_bytes() == three)
+    judge("another", (work / "out_00003.ch10").read_bytes() == two)
+    judge("and its next stream", (work / "out_00004.ch10").read_bytes() == three)
+    judge("which begins anew", (work / "out_00005.ch10").read_bytes() == three)
 
 
 def test_a_recording_that_has_not_ended_is_known(work: Path) -> None:

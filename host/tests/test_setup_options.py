@@ -13,10 +13,11 @@ import tomllib
 from bpfrec_host.chapter11.options import attribute_of
 from expected_facts import facts_of_run
 from reading import SAMPLES
-from support import EXPORT, TOOLS, judge, outcome, run
+from setups import CHAPTER11
+from support import TOOLS, judge, outcome, run
 
 WANTED: dict[str, str] = {}
-CHAPTER11, PUBLISH = (EXPORT, "--as=chapter11"), TOOLS / "publish"
+PUBLISH = TOOLS / "publish"
 # Names that some reader takes for one of the setup record's own.
 KEPT = [
     *(

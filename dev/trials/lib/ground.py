@@ -16,9 +16,11 @@ from pathlib import Path
 from typing import Any, NamedTuple, Optional
 
 from recordings import extracted
-from support import BPFREC, SECONDS, TOOLS, judge_quietly, outcome, present, run, wait_for
-from whole_file import SECOND, SETUP, Origin, Setup
-from whole_file_parts import ORIGIN, Part, recorded
+from streamed import Stream
+from support import BPFREC, SECONDS, TOOLS, judge_quietly, nanoseconds, outcome, present, wait_for
+from whole_file import SECOND, Origin, Setup
+from whole_file import packets_in as recorded_packets
+from whole_file_parts import ORIGIN, parts_of, recorded
 
 PUBLISH, RECEIVE = TOOLS / "publish", TOOLS / "receive"
 PUBLISHED = re.compile(r"published packets (\d+) datagrams (\d+) lost (\d+) late (\d+)\n\Z")
@@ -157,13 +159,6 @@ def packets_in(datagrams: list[bytes]) -> bytes:
     return bytes(found)
 
 
-def renumbered(parts: list[Part]) -> list[Part]:
-    """The packets of a whole file: setup records but the first are left out, and channel 0 is numbered anew."""
-    kept = [it for at, it in enumerate(parts) if not at or it.kind != SETUP]
-    numbers = iter(range(len(kept)))
-    return [it if it.channel else it._replace(sequence=next(numbers) % 256) for it in kept]
-
-
 class Receiver:
     """bpfrec receive, which writes what comes to a port into a file."""
 
@@ -223,10 +218,18 @@ def drawn_flight(work: Path, seed: int, seconds: int = 25) -> Path:
     return path
 
 
-def whole_file_of(work: Path, path: Path) -> bytes:
-    """The whole file that bpfrec makes of a recording, with the name that publish gives it."""
-    run(TOOLS / "export", "--force", "--attribute", f"G\\COM:{path.name}", path, work / "whole.ch10")
-    return (work / "whole.ch10").read_bytes()
+def stream_of(path: Path) -> Stream:
+    """The stream that a second writer makes of a recording, by the facts beside it."""
+    facts, data = json.loads(Path(f"{path}.json").read_bytes()), path.read_bytes()
+    origins = tuple(Origin(it["counter"], nanoseconds(*it["origin"].split("."))) for it in facts["origins"])
+    named = {part.channel or int.from_bytes(part.data[10:12], "little") for part in parts_of(data)}
+    names = {it["channel"]: it["interface"] for it in facts["interfaces"]}
+    channels = {it: (names.get(it, "channel"), 0) for it in named}
+    attributes = (f"G\\COM:{path.name}",)
+    stream = Stream(Setup(origins, facts["host"], facts["program"], attributes=attributes, channels=channels))
+    for packet in recorded_packets(data):
+        stream.put(*packet)
+    return stream
 
 
 def send(path: Path, address: str, *options: object) -> Published:

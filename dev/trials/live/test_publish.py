@@ -6,6 +6,7 @@ from __future__ import annotations
 import contextlib
 import os
 import random
+import signal
 import socket
 import subprocess
 import time
@@ -23,47 +24,71 @@ from ground import (
     free_port,
     packets_in,
     published,
-    renumbered,
     send,
-    whole_file_of,
+    stream_of,
     write_facts,
 )
-from recordings import Traffic, begin, extracted, facts_of, is_approved, nothing_left, recordings, settings_of_one
-from support import CHECK_CH10, LIVE, PREFLIGHT, judge, judge_quietly, outcome, run, wait_for
-from whole_file import INDEX, Origin, Setup
+from reading import SAMPLES
+from recordings import (
+    Traffic,
+    begin,
+    extracted,
+    facts_of,
+    is_approved,
+    nothing_left,
+    processes_of,
+    recordings,
+    settings_of_one,
+)
+from support import LIVE, PREFLIGHT, ROOT, judge, judge_quietly, outcome, run, wait_for
+from whole_file import SECOND, SETUP, TIME, Origin, Setup
 from whole_file_parts import ORIGIN, SAMPLE_SETUP, parts_of, recorded, sample_recording
 
 WANTED = {"bin/bpfrec": "make build", "bin/capture": "make build", "ip": "iproute2"}
 pytestmark = [pytest.mark.usefixtures("namespace")]
-NO_INDEX = "the file doesn't end with a root that names all"
+PAGE = ROOT / "docs/user/formats/whole_file.md"
 
 
-@pytest.mark.parametrize("seed, most", [(1, 1_472), (2, 36), (3, 65_507), (4, 300)])
-def test_the_packets_are_those_of_a_whole_file(work: Path, seed: int, most: int) -> None:
-    """Packet for packet what bpfrec chapter11 writes, but for the index and repeated setup records; and what is received
-    is that too, and answers as the recording does."""
+@pytest.mark.parametrize("seed, most", [(1, 1_472), (2, 64), (3, 65_504), (4, 300)])
+def test_the_packets_are_those_of_a_stream(work: Path, seed: int, most: int) -> None:
+    """Byte for byte what a second writer makes of the recording; and what is received is that too, and answers as the
+    recording does."""
     path = drawn_flight(work, seed)
-    whole = whole_file_of(work, path)
+    stream = stream_of(path)
     station = Station()
     counts = send(path, station.address, "--datagram", most)
     datagrams = station.close()
-    judge("each datagram comes", (len(datagrams), counts.lost, counts.late) == (counts.datagrams, 0, 0), counts)
+    judge("each datagram comes", (len(datagrams), counts.lost) == (counts.datagrams, 0), counts)
     judge("none is longer", max(map(len, datagrams)) <= most)
-    wanted = [it for it in parts_of(whole) if it.kind != INDEX]
-    judge("each packet", renumbered(parts_of(packets_in(datagrams))) == wanted, (counts.packets, len(wanted)))
+    wanted = bytes(stream.file.data)
+    judge("its bytes", packets_in(datagrams) == wanted, counts)
+    judge("its counts", (counts.packets, counts.late) == (sum(stream.file.counts.values()), stream.late), counts)
     port = free_port()
     receiver = Receiver(work, "ground.ch10", f"127.0.0.1:{port}")
     sent = send(path, f"127.0.0.1:{port}", "--datagram", most)
     status, received = receiver.ended()
     judge("nothing is lost", (status, received.lost, received.damaged) == (0, 0, 0), received)
-    judge("counts", (received.datagrams, received.packets) == (sent.datagrams, len(wanted)), (sent, received))
-    judge("the file", parts_of(receiver.out.read_bytes()) == wanted)
-    faults = [
-        it for it in outcome(CHECK_CH10, receiver.out).stdout.splitlines() if not it.startswith(("channel", "packets"))
-    ]
-    judge("the index alone is missing", [it.partition(" ")[2] for it in faults] == [NO_INDEX], faults)
-    channels = sorted({it.channel for it in wanted if it.kind == FRAMES})
+    judge("counts", (received.datagrams, received.packets) == (sent.datagrams, counts.packets), (sent, received))
+    judge("the file", receiver.out.read_bytes() == wanted)
+    channels = sorted({it.channel for it in parts_of(wanted) if it.kind == FRAMES})
     judge("it answers as the recording", answers(receiver.out, channels, work) == answers(path, channels, work))
+
+
+def test_the_datagrams_of_the_worked_row_are_those_of_the_page(work: Path) -> None:
+    path = work / "flight.ch11"
+    path.write_bytes(SAMPLES[1].read_bytes())
+    section = PAGE.read_text().partition("## The same packets by UDP")[2]
+    lines = [it.removesuffix(" ..").replace(" ", "") for it in section.split("```")[1].split("\n") if it]
+    for most, lengths in [(1_472, [968]), (400, [400, 300, 292])]:
+        station = Station()
+        send(path, station.address, "--datagram", most, "--origin", "1764590400.250000123")
+        sent = station.close()
+        judge(f"of at most {most}", [len(it) for it in sent] == lengths, [len(it) for it in sent])
+    judge(
+        "their bytes",
+        len(lines) == 3 and all(it.hex().startswith(line) for it, line in zip(sent, lines)),
+        [it.hex() for it in sent],
+    )
 
 
 def test_what_is_recorded_is_received_as_it_grows(work: Path) -> None:
@@ -75,7 +100,7 @@ def test_what_is_recorded_is_received_as_it_grows(work: Path) -> None:
     words = ("--publish", f"127.0.0.1:{port},datagram=9000", "--publish", station.address)
     running = begin(work, out, "--quiet", "--every", 2, *words)
     traffic = Traffic(length=300)
-    wait_for("three recordings", lambda: len(recordings(work, "flight")) >= 3, 60)
+    wait_for("three recordings", lambda: any(it.stat().st_size > 1_000 for it in recordings(work, "flight")[2:]), 60)
     judge("it is sent while the recording goes on", len(station.datagrams) > 10, len(station.datagrams))
     running.interrupt()
     sent = traffic.end()
@@ -187,14 +212,78 @@ def test_addresses_of_ipv6_are_sent_to(work: Path, address: str) -> None:
     judge("all is received", (status, received.datagrams, counts.lost) == (0, counts.datagrams, 0), (received, counts))
 
 
+def test_in_a_silence_datagrams_go_on(work: Path) -> None:
+    """One a second without a packet, from the beginning of the recording on; the numbers have no gap."""
+    out, station = work / "flight.ch11", Station()
+    running = begin(work, out, "--quiet", "--publish", station.address)
+    wait_for("three", lambda: len(station.datagrams) > 2)
+    judge("no packet", {len(it) for it in station.datagrams[:3]} == {4})
+    traffic = Traffic()
+    wait_for("frames", lambda: FRAMES in [it.kind for it in parts_of(packets_in(station.datagrams))])
+    traffic.end()
+    before = len(station.datagrams)
+    wait_for("silence again", lambda: [len(it) for it in station.datagrams[before:]][-2:] == [4, 4])
+    running.interrupt()
+    judge("it ends well", running.ended()[0] == 0, running.told())
+    judge_quietly("numbers", packets_in(station.close()))
+
+
+def test_a_stream_that_dies_is_said(work: Path) -> None:
+    """The recording goes on, and what comes later is published again."""
+    out, station = work / "flight.ch11", Station()
+    running = begin(work, out, "--quiet", "--publish", station.address)
+    traffic = Traffic()
+    wait_for("it is sent", lambda: len(station.datagrams) > 3)
+    (pid,) = [it for it, words in processes_of(out).items() if "--stream" in words]
+    os.kill(pid, signal.SIGKILL)
+    line = f"bpfrec live: publish {station.address}: {out}: its stream ended by signal 9\n"
+    wait_for("a line", lambda: line in running.told())
+    before = len(station.datagrams)
+    wait_for("it is sent again", lambda: len(station.datagrams) > before + 3, 60)
+    running.interrupt()
+    sent = traffic.end()
+    judge("it ends well", running.ended()[0] == 0 and is_approved(out), running.told())
+    judge("with all frames", [it["frames"] for it in facts_of(out)["counts"]] == [sent, sent], sent)
+
+
+def test_a_clock_that_is_set_begins_another_stream(work: Path) -> None:
+    """Whose times are those of the later origin, and which is a file of its own on the ground."""
+    path, port = work / "flight.ch11", free_port()
+    made = recorded(random.Random(3), [1, 2], 0, 3)
+    origins = (Origin(0, ORIGIN), Origin(29_000_000, ORIGIN + 3_600 * SECOND))
+    path.write_bytes(bytes(made.data))
+    write_facts(path, Setup(origins[:1], channels={}), "recording")
+    receiver, station = Receiver(work, "ground.ch10", f"127.0.0.1:{port}"), Station()
+    addresses = (f"127.0.0.1:{port}", station.address)
+    publishers = [subprocess.Popen([PUBLISH, path, it], stderr=subprocess.PIPE, text=True) for it in addresses]
+    wait_for("it is sent", lambda: len(parts_of(packets_in(station.datagrams))) > 5)
+    before = len(packets_in(station.datagrams))
+    write_facts(path, Setup(origins, channels={}), "recording")
+    made.add_frames(1, [(30_000_000, 0, 60)])
+    path.write_bytes(bytes(made.data))
+    wait_for("more is sent", lambda: len(packets_in(station.datagrams)) > before)
+    for publisher in publishers:
+        publisher.terminate()
+        judge_quietly("it ends well", publisher.wait(30) == 0)
+    later = parts_of(packets_in(station.close())[before:])
+    setups = [it for it in later if it.kind == SETUP]
+    judge("a setup record, from 0 on", len(setups) == 1 and later[0] == setups[0]._replace(sequence=0), later[0])
+    judge("with its place", b"G\\COM:flight.ch11;\r\nG\\COM:from byte " in setups[0].data, setups[0].data)
+    (last,) = [it for it in later if it.kind == FRAMES]
+    times = [it.data for it in later if it.kind == TIME]
+    judge("a time of the new origin", last.counter == 30_000_000 and times[-1][6:8] == b"\x00\x13", times[-1].hex())
+    judge_quietly("it is received", receiver.ended()[0] == 0)
+    judge("in a file of its own", (work / "ground_00002.ch10").exists())
+
+
 def test_one_that_has_ended_goes_out_at_the_pace_of_its_counters(work: Path) -> None:
-    path = drawn_flight(work, 5, seconds=3)
+    path = drawn_flight(work, 5, seconds=7)
     station = Station()
     begun = time.monotonic()
     done = outcome(PUBLISH, path, station.address)
     took = time.monotonic() - begun
     judge("it ends well", done.returncode == 0 and station.close(), done.stderr)
-    judge(f"in about 3 s: {took:.1f}", took > 2)
+    judge(f"in about 7 s: {took:.1f}", took > 5)
 
 
 def test_what_is_there_is_left_out_with_now(work: Path) -> None:
@@ -233,7 +322,8 @@ def test_what_cannot_be_published_is_refused(work: Path) -> None:
         ([work, "127.0.0.1:5"], 1, "it is no regular file, which could be followed"),
         ([path, "ground:5"], 2, "ground:5: needs ADDRESS:PORT"),
         (["--interface", "lo", path, "127.0.0.1:5"], 2, "--interface is for a multicast group"),
-        (["--datagram", "35", path, "127.0.0.1:5"], 2, "35 is no number from 36 to 65507"),
+        (["--datagram", "60", path, "127.0.0.1:5"], 2, "60 is no multiple of 4 from 64 to 65507"),
+        (["--datagram", "66", path, "127.0.0.1:5"], 2, "66 is no multiple of 4 from 64 to 65507"),
         (["--ttl", "256", path, "127.0.0.1:5"], 2, "256 is no number from 0 to 255"),
     ]
     for words, status, what in refused:

@@ -15,9 +15,9 @@ import pytest
 from bpfrec_host.formats.transfer import whole_head
 from bpfrec_host.receive.source import SILENCE
 from frames import packet_of
-from ground import RECEIVE, Receiver, Relay, Station, drawn_flight, free_port, is_taken, send, whole_file_of
+from ground import RECEIVE, Receiver, Relay, Station, drawn_flight, free_port, is_taken, send, stream_of
 from support import BPFREC, judge, judge_quietly, outcome, wait_for
-from whole_file import INDEX, SETUP
+from whole_file import SETUP
 from whole_file_parts import parts_of
 
 WANTED = {"bin/bpfrec": "make build", "ip": "iproute2"}
@@ -29,7 +29,7 @@ def test_what_a_network_loses_doubles_and_exchanges_is_counted(work: Path, seed:
     path = drawn_flight(work, seed)
     port = free_port()
     receiver = Receiver(work, "ground.ch10", f"127.0.0.1:{port}")
-    relay = Relay(random.Random(seed), port, 0.02)
+    relay = Relay(random.Random(seed), port, 0.05)
     counts = send(path, relay.address, "--datagram", 200)
     wait_for("all has come to the relay", lambda: relay.came == counts.datagrams)
     relay.close()
@@ -41,7 +41,7 @@ def test_what_a_network_loses_doubles_and_exchanges_is_counted(work: Path, seed:
     errors = receiver.errors.read_text().splitlines()
     gaps = sum(int(it.split()[3]) for it in errors if it.startswith("bpfrec receive: gap "))
     judge("each gap is said", gaps == relay.lost, errors)
-    got, wanted = parts_of(receiver.out.read_bytes()), parts_of(whole_file_of(work, path))
+    got, wanted = parts_of(receiver.out.read_bytes()), parts_of(bytes(stream_of(path).file.data))
     rest = Counter(it.data for it in got) - Counter(it.data for it in wanted)
     judge("what is written was sent", not rest and 0 < len(got) < len(wanted), (len(got), len(wanted)))
     judge("and can be read", outcome(BPFREC, "list", receiver.out).returncode == 0)
@@ -52,7 +52,7 @@ def test_what_came_ahead_of_the_end_is_written(work: Path) -> None:
     path, port = drawn_flight(work, 6), free_port()
     receiver = Receiver(work, "ground.ch10", f"127.0.0.1:{port}")
     receiver.process.send_signal(signal.SIGSTOP)
-    counts = send(path, f"127.0.0.1:{port}", "--datagram", 36)
+    counts = send(path, f"127.0.0.1:{port}", "--datagram", 64)
     judge_quietly("more than a turn takes", counts.datagrams > 1_024, counts)
     receiver.process.terminate()
     receiver.process.send_signal(signal.SIGCONT)
@@ -111,8 +111,7 @@ def test_recordings_that_began_in_the_same_second_have_their_own_files(work: Pat
     status, received = receiver.ended()
     judge("nothing is lost", (status, received.datagrams) == (0, counts.datagrams), received)
     for name, run in (("ground.ch10", "run_00001.ch11"), ("ground_00002.ch10", "run_00002.ch11")):
-        wanted = [it for it in parts_of(whole_file_of(work, work / run)) if it.kind != INDEX]
-        judge(name, parts_of((work / name).read_bytes()) == wanted)
+        judge(name, (work / name).read_bytes() == bytes(stream_of(work / run).file.data))
 
 
 # ---- by hand
@@ -142,16 +141,17 @@ def datagrams_of(path: Path, *options: object) -> list[bytes]:
 def test_a_setup_record_that_was_lost_is_waited_for(work: Path) -> None:
     """What came ahead of the next one stands behind it."""
     path, port = drawn_flight(work, 2), free_port()
-    datagrams = datagrams_of(path, "--datagram", 36)
+    datagrams = datagrams_of(path, "--datagram", 64)
     setup = [it for it in datagrams if it[:1] == b"\x11" and it[4:8] == bytes(4)]
     setup = setup[: next((at for at, it in enumerate(setup[1:], 1) if it[8:12] == bytes(4)), len(setup))]
     receiver = Receiver(work, "ground.ch10", f"127.0.0.1:{port}")
     Sender(port).send([it for it in datagrams if it not in setup])
     status, received = receiver.ended()
     judge("the rest is there", (status, received.skipped) == (1, 0), received)
-    wanted = [it for it in parts_of(whole_file_of(work, path)) if it.kind != INDEX]
-    got = parts_of(receiver.out.read_bytes())
-    judge("all packets", got[1:] == wanted[1:] and got[0].data == wanted[0].data, (len(got), len(wanted)))
+    sent, got = parts_of(bytes(stream_of(path).file.data)), parts_of(receiver.out.read_bytes())
+    next_one = [it for it in sent if it.kind == SETUP][1]
+    wanted = [next_one, *(it for it in sent[1:] if it is not next_one)]
+    judge("all packets", got == wanted, (len(got), len(wanted)))
 
 
 def test_datagrams_of_another_sender_are_left_out_and_counted(work: Path) -> None:
@@ -166,8 +166,8 @@ def test_datagrams_of_another_sender_are_left_out_and_counted(work: Path) -> Non
     judge("they are counted", received.foreign == len(datagrams) + 2, received)
     judge("and change nothing", (status, received.datagrams, received.lost) == (0, len(datagrams), 0), received)
     judge("a line says so", " are left out: the stream is of 127.0.0.1 port " in receiver.errors.read_text())
-    wanted = [it for it in parts_of(whole_file_of(work, path)) if it.kind != INDEX]
-    judge("the file", parts_of(receiver.out.read_bytes()) == wanted)
+    wanted = bytes(stream_of(path).file.data)
+    judge("the file", receiver.out.read_bytes() == wanted)
 
 
 def test_a_publisher_that_was_killed_is_a_gap(work: Path) -> None:
@@ -182,8 +182,8 @@ def test_a_publisher_that_was_killed_is_a_gap(work: Path) -> None:
     judge("it isn't well", (status, received.lost, received.foreign) == (1, 0, 0), received)
     line = "bpfrec receive: gap of unknown length: another stream begins before the recording has ended"
     judge("a line says so", line in receiver.errors.read_text().splitlines(), receiver.errors.read_text())
-    wanted = [it for it in parts_of(whole_file_of(work, path)) if it.kind != INDEX]
-    judge("the other has its file", parts_of((work / "ground_00002.ch10").read_bytes()) == wanted)
+    wanted = bytes(stream_of(path).file.data)
+    judge("the other has its file", (work / "ground_00002.ch10").read_bytes() == wanted)
 
 
 def test_one_sender_is_asked_for(work: Path) -> None:

@@ -10,11 +10,11 @@ from typing import IO, NoReturn, Optional
 
 from bpfrec_host import printing, program
 from bpfrec_host.arguments import name_of
-from bpfrec_host.chapter11.joining import Joined
 from bpfrec_host.chapter11.networks import networks_of
 from bpfrec_host.chapter11.setup import Asked, setup_text, told_by
-from bpfrec_host.chapter11.several import Recorded, channels_of
 from bpfrec_host.formats import facts
+from bpfrec_host.joined.joining import Joined
+from bpfrec_host.joined.several import Recorded, channels_of
 from bpfrec_host.streams import STREAM, Refused, Taken, Unreadable, input_at, refuse_overwriting
 
 SECONDS = re.compile(r"-?[0-9]{1,12}(?:\.[0-9]{1,9})?")
@@ -87,13 +87,9 @@ def setup_of(given: argparse.Namespace) -> str:
     path = facts_path(given)
     judge_outputs(given.out, [recording, *([path] if path else [])])
     known = facts_at(path) if path else None
-    networks = networks_of(recording)
-    told = told_by(known) if known else None
-    if told and given.out is not None:
-        # The program takes long for thousands that the recording lacks.
-        told = told._replace(interfaces={it: name for it, name in told.interfaces.items() if it in networks})
+    networks = networks_of(recording).of_all()
     try:
-        return setup_text(asked_of(given), told, networks)
+        return setup_text(asked_of(given), told_by(known) if known else None, networks)
     except Refused as refused:
         raise Refused(f"{path}: {refused}") from None
 
@@ -115,11 +111,17 @@ def as_operand(path: str) -> str:
 def become(recording: str, setup: str, out: str) -> NoReturn:
     """Becomes bpfrec, which makes the file by a SETUP in memory. So whatever ends this process ends that program."""
     bpfrec = program.find()
+    descriptor = in_memory(setup)
+    os.set_inheritable(descriptor, True)
+    os.execv(bpfrec, [bpfrec, "chapter11", as_operand(recording), at_descriptor(descriptor), as_operand(out)])
+
+
+def in_memory(setup: str) -> int:
+    """The descriptor of a file in memory that has SETUP."""
     descriptor = os.memfd_create("setup")
     with open(descriptor, "wb", closefd=False) as file:
         file.write(setup.encode())
-    os.set_inheritable(descriptor, True)
-    os.execv(bpfrec, [bpfrec, "chapter11", as_operand(recording), at_descriptor(descriptor), as_operand(out)])
+    return descriptor
 
 
 def at_descriptor(descriptor: int) -> str:
@@ -149,7 +151,7 @@ def make_of_several(given: argparse.Namespace) -> None:
     """Makes the file of several recordings, or prints SETUP with the new IDs ahead of it."""
     joined = joined_of(given)
     lines, setup = joined.lines(), joined.setup_text()
-    if not is_made_of("".join(f"# {it}" for it in lines) + setup, given):
+    if not is_made_of("".join([*(f"# {it}" for it in lines), setup]), given):
         return
     with joined_file(joined, os.path.dirname(os.path.realpath(given.out))) as file:
         printing.out("".join(lines))

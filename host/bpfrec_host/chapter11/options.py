@@ -7,8 +7,9 @@ import argparse
 import re
 
 from bpfrec_host.arguments import natural
-from bpfrec_host.formats.limits import MAX_TAI_OFFSET
 
+# By how many seconds SETUP takes a clock to be ahead, at most.
+MAX_AHEAD = 255
 ATTRIBUTE = re.compile(r"([ -9<-~][ -9<-~]*):[ -:<-~]*")
 # The name of the test program, whose line an attribute replaces.
 PROGRAM_NAME = "G\\PN"
@@ -39,8 +40,8 @@ def setup_arguments(given: argparse.Namespace) -> list[str]:
 def ahead_of(word: str) -> int:
     """The seconds by which TAI is ahead."""
     number = natural(word)
-    if number > MAX_TAI_OFFSET:
-        raise argparse.ArgumentTypeError(f"{word} is no number of seconds up to {MAX_TAI_OFFSET}")
+    if number > MAX_AHEAD:
+        raise argparse.ArgumentTypeError(f"{word} is no number of seconds up to {MAX_AHEAD}")
     return number
 
 

@@ -1,17 +1,18 @@
-"""SETUP of `bpfrec chapter11`: what a whole Chapter 11 file says beside the packets of its recording."""
+"""SETUP of `bpfrec chapter11`: what a whole Chapter 11 file says beside the packets of its recording. Its times are those
+of the facts, which the program reads."""
 
 from __future__ import annotations
 
 import re
-from typing import Any, NamedTuple, Optional, Union
+from typing import Any, NamedTuple, Optional
 
 from bpfrec_host.formats import facts
-from bpfrec_host.formats.facts import Facts, Origin
-from bpfrec_host.formats.limits import NANOSECONDS_A_SECOND
+from bpfrec_host.formats.facts import TAI, UTC, Facts, Origin
 from bpfrec_host.formats.settings_text import text_of
 from bpfrec_host.streams import Refused
 
 MAX_ORIGINS = 65_536
+UNKNOWN = "unknown"
 # What no text in UTF-8 has.
 SURROGATE, REPLACEMENT = re.compile("[\ud800-\udfff]"), "\ufffd"
 
@@ -42,8 +43,9 @@ def told_by(known: Facts) -> Told:
 
 def setup_text(asked: Asked, known: Optional[Told], networks: dict[int, int]) -> str:
     """SETUP of a recording, by the facts and the network identifiers of its channels."""
-    found: dict[str, Any] = {"origins": origins_of(known, asked.ahead)} if known else {"origin": asked.origin}
+    found: dict[str, Any] = {**scale_of(asked.ahead), **(origins_of(known) if known else {"origin": asked.origin})}
     if known:
+        judge_scales(known, asked.ahead)
         found["host"] = plain(known.host)
     if known and known.program:
         found["program"] = plain(known.program)
@@ -51,52 +53,58 @@ def setup_text(asked: Asked, known: Optional[Told], networks: dict[int, int]) ->
         found["external"] = True
     if asked.attributes:
         found["attributes"] = list(asked.attributes)
-    found["channel"] = channels_of(known.interfaces if known else {}, networks)
+    found["channel"] = channel_tables(known.interfaces if known else {}, networks)
     return text_of({key: value for key, value in found.items() if value != []})
 
 
-def origins_of(known: Told, ahead: Optional[int]) -> list[dict[str, Any]]:
-    """The origins that hold for some counter, in UTC."""
-    found = moments_of(known, ahead)
-    return [{"counter": counter, "origin": seconds_of(moment)} for counter, moment in found]
-
-
-def moments_of(known: Union[Told, Facts], ahead: Optional[int]) -> list[tuple[int, int]]:
-    """The counters from which on origins hold, and their moments in UTC. The first holds from counter 0 on."""
-    first, *others = known.origins
-    found = facts.holding([first._replace(counter=0), *others])
-    if len(found) > MAX_ORIGINS:
-        raise Refused(f"{len(found)} origins, and SETUP takes {MAX_ORIGINS} at most")
-    return [(it.counter, utc_moment(it, ahead)) for it in found]
-
-
-def utc_moment(origin: Origin, ahead: Optional[int]) -> int:
-    """The moment of an origin in UTC, in nanoseconds since 1970."""
-    if origin.scale:
-        return origin.moment
+def scale_of(ahead: Optional[int]) -> dict[str, Any]:
+    """The scale of origins that say none."""
     if ahead is None:
-        place = f"the origin from counter {origin.counter} on"
+        return {}
+    return {"scale": TAI, "tai_offset": ahead} if ahead else {"scale": UTC}
+
+
+def origins_of(known: Told) -> dict[str, Any]:
+    """The origins that hold for some counter."""
+    held = holding(known)
+    if len(held) > MAX_ORIGINS:
+        raise Refused(f"{len(held)} origins, and SETUP takes {MAX_ORIGINS} at most")
+    return {"origins": [origin_table(it) for it in held]}
+
+
+def holding(known: Told) -> list[Origin]:
+    """The origins that hold for some counter; the first holds from counter 0 on."""
+    first, *others = known.origins
+    return facts.holding([first._replace(counter=0), *others])
+
+
+def origin_table(origin: Origin) -> dict[str, Any]:
+    """An origin as the facts have it."""
+    found: dict[str, Any] = {"counter": origin.counter, "origin": origin.text}
+    if origin.scale == TAI:
+        return {**found, "scale": TAI, "tai_offset": origin.tai_offset}
+    return found if origin.scale else {**found, "scale": UNKNOWN}
+
+
+def judge_scales(known: Told, ahead: Optional[int]) -> None:
+    """Refuses an origin whose scale nobody knows."""
+    unknown = next((it for it in holding(known) if not it.scale), None)
+    if unknown and ahead is None:
+        place = f"the origin from counter {unknown.counter} on"
         raise Refused(f"{place}: its scale is unknown: --utc says that it is UTC, and --tai 37 that it is 37 s ahead")
-    return origin.moment - ahead * NANOSECONDS_A_SECOND
 
 
-def seconds_of(moment: int) -> str:
-    """A moment in seconds, with nine digits behind the point."""
-    seconds, rest = divmod(abs(moment), NANOSECONDS_A_SECOND)
-    return f"{'-' if moment < 0 else ''}{seconds}.{rest:09}"
-
-
-def channels_of(names: dict[int, str], networks: dict[int, int]) -> list[dict[str, Any]]:
-    """The channels of which a name or a network identifier is known that isn't the usual one."""
-    found = []
-    for channel in sorted({*names, *(it for it, net in networks.items() if net)}):
+def channel_tables(names: dict[int, str], networks: dict[int, int]) -> list[dict[str, Any]]:
+    """The channels that have a network identifier, with their names."""
+    tables: list[dict[str, Any]] = []
+    for channel, network in sorted(networks.items()):
         table: dict[str, Any] = {"id": channel}
         if channel in names:
             table["name"] = plain(names[channel])
-        if networks.get(channel):
-            table["net"] = networks[channel]
-        found.append(table)
-    return found
+        if network:
+            table["net"] = network
+        tables.append(table)
+    return tables
 
 
 def plain(text: str) -> str:

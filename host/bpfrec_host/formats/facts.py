@@ -92,7 +92,6 @@ class Facts:
         self.origins = origins_in(told.get("origins"))
         # Facts of before scales were noted don't say which time an adapter's clock ran.
         lack = any("scale" not in it for it in told["origins"])
-        self.is_by_host = told.get("clock") == "host"
         self.is_scale_unsaid = told.get("clock") == "adapter" and lack
         self.losses = losses_in(told.get("losses"))
         self.interruptions = interruptions_in(told.get("interruptions"))
@@ -170,6 +169,12 @@ def nanoseconds_of(text: Any) -> Optional[int]:
         return None
     count = int(found[2]) * NANOSECONDS_A_SECOND + int(found[3])
     return -count if found[1] else count
+
+
+def seconds_of(moment: int) -> str:
+    """Nanoseconds as seconds, with nine digits behind the point."""
+    seconds, rest = divmod(abs(moment), NANOSECONDS_A_SECOND)
+    return f"{'-' if moment < 0 else ''}{seconds}.{rest:09}"
 
 
 def origins_in(told: Any) -> list[Origin]:

@@ -5,14 +5,12 @@ from __future__ import annotations
 import struct
 from typing import NamedTuple, Optional
 
-from bpfrec_host.formats.limits import HEADER_LEN
-
 FORMAT, WHOLE, PART = 1, 0, 1
 # Numbers of datagrams have 24 bits.
 NUMBERS = 1 << 24
 HEAD, PART_HEAD = struct.Struct("<I"), struct.Struct("<III")
 # A part that begins a packet has its whole header, so that a receiver knows how long it is.
-MIN_DATAGRAM_LEN, MAX_DATAGRAM_LEN = PART_HEAD.size + HEADER_LEN, 65_507
+MIN_DATAGRAM_LEN, MAX_DATAGRAM_LEN, DATAGRAM_STEP = 64, 65_507, 4
 # What an Ethernet frame of 1,500 bytes takes behind the headers of IPv4 and UDP.
 USUAL_DATAGRAM_LEN = 1_472
 
@@ -27,7 +25,7 @@ class Part(NamedTuple):
 
 
 class Datagram(NamedTuple):
-    """A datagram: its number, whole packets or a part of one, and where that belongs."""
+    """A datagram: its number, whole packets, which may be none, or a part of one, and where that belongs."""
 
     number: int
     part: Optional[Part]
@@ -46,7 +44,7 @@ def part_head(number: int, part: Part) -> bytes:
 
 def datagram_in(data: bytes) -> Optional[Datagram]:
     """The datagram that bytes are; None where they have no such header."""
-    if len(data) <= HEAD.size:
+    if len(data) < HEAD.size:
         return None
     (word,) = HEAD.unpack_from(data)
     if word & 0xFF == WHOLE << 4 | FORMAT:

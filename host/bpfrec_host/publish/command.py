@@ -7,23 +7,24 @@ import math
 import os
 import signal
 import stat
-import time
 from types import FrameType
 from typing import Optional
 
-from bpfrec_host import printing
+from bpfrec_host import printing, program
 from bpfrec_host.addresses import length_of, ttl_of, udp_address
 from bpfrec_host.arguments import Parser, name_of
 from bpfrec_host.chapter11.command import origin_of
 from bpfrec_host.chapter11.options import add_setup_options
 from bpfrec_host.chapter11.setup import Asked
-from bpfrec_host.follow.growing import PATIENCE, PAUSE, next_of
+from bpfrec_host.follow.growing import PATIENCE, next_of
 from bpfrec_host.follow.runs import first_of
-from bpfrec_host.formats.transfer import MAX_DATAGRAM_LEN, MIN_DATAGRAM_LEN, USUAL_DATAGRAM_LEN
+from bpfrec_host.formats.transfer import DATAGRAM_STEP, MAX_DATAGRAM_LEN, MIN_DATAGRAM_LEN, USUAL_DATAGRAM_LEN
 from bpfrec_host.publish.datagrams import Datagrams
 from bpfrec_host.publish.recording import Recording
 from bpfrec_host.publish.sending import Route, Sending
-from bpfrec_host.streams import Refused
+from bpfrec_host.publish.stream import Broken
+from bpfrec_host.publish.streaming import Streaming
+from bpfrec_host.streams import Refused, Unreadable
 
 ABOUT = """\
 Sends a recording that goes on to a ground station, by UDP: packets of Chapter 11 as they are written, in datagrams with
@@ -33,12 +34,13 @@ the transfer header of Chapter 10, format 1.
 
 RECORDING is a recording, or the name of a run whose recordings are numbered; then it begins with the newest, and goes on
 over those that follow until the run ends. ADDRESS:PORT is a host or a multicast group, of IPv6 as [ff02::1%eth0]:50000.
-The packets are those of `chapter11`, without an index. A setup record (TMATS) stands at the start and each ten seconds,
-and a time packet each second. Packets of frames span 100 ms at most, and all are merged by their counters.
+The packets are those of a stream of `bpfrec chapter11`, which makes them. A setup record (TMATS) stands at the start and
+each ten seconds, and a time packet each second. Packets of frames span 100 ms at most, and stand as the recording has
+them. Where none came for a second, a datagram without a packet goes out.
 """
 MORE = """\
-A piece of a channel waits for a channel that is behind: a little longer than their spans, and at most a second. One that
-comes later goes out all the same and is counted as late.
+A recording is a stream, and each origin that its clock gets later begins another one. A piece that lies over a second
+behind one ahead of it is counted as late. A stream that is refused or dies ends it, and a line says why.
 
 Nothing waits for the network. A datagram that the socket doesn't take is lost: it has no room, no route, or nobody listens
 there. A line says so, every 5 s at most, and the recording notices nothing.
@@ -51,8 +53,6 @@ there of a recording that goes on, and end. What it leaves out of one that has e
 Status: 0 the run has ended, also where datagrams were lost, 1 a recording is damaged or refused, 2 the arguments are wrong,
 3 a file can't be read, 4 out of memory, 130 interrupted.
 """
-# In how short a time it sees, while it waits for a moment, that it is to end.
-LONGEST_PAUSE = 0.1
 
 
 def parser() -> Parser:
@@ -66,7 +66,8 @@ def parser() -> Parser:
     ttl = "the hops of a group's datagrams, 0 to 255; 1, which is the link alone, by default"
     made.add_argument("--ttl", metavar="N", type=ttl_of, default=1, help=ttl)
     made.add_argument("--interface", metavar="NAME", help="the interface by which a group's datagrams go")
-    most = f"the longest datagram, {MIN_DATAGRAM_LEN} to {MAX_DATAGRAM_LEN} bytes; {USUAL_DATAGRAM_LEN:,} by default"
+    limits = f"{MIN_DATAGRAM_LEN} to {MAX_DATAGRAM_LEN} bytes, a multiple of {DATAGRAM_STEP}"
+    most = f"the longest datagram, {limits}; {USUAL_DATAGRAM_LEN:,} by default"
     made.add_argument("--datagram", metavar="BYTES", type=length_of, default=USUAL_DATAGRAM_LEN, help=most)
     origin = "where there are no facts, the moment of counter 0 in UTC, in seconds since 1970"
     made.add_argument("--origin", metavar="SECONDS", type=origin_of, help=origin)
@@ -91,7 +92,7 @@ class Publisher:
             Route(given.address, given.ttl, given.interface), lambda line: err(f"{given.address}: {line}")
         )
         self.datagrams = Datagrams(given.datagram, self.sending.send)
-        self.packets = self.late = 0
+        self.late = 0
         self.is_damaged = False
         # Whether the first recording had ended, so that all go out at their pace; one that follows may have ended since.
         self.is_replay: Optional[bool] = None
@@ -103,81 +104,73 @@ class Publisher:
         self.is_ending = True
         self.is_interrupted |= number == signal.SIGINT
 
+    def is_given_up(self) -> bool:
+        """Whether nothing is waited for any more; while it waits, it shows that it is there."""
+        self.datagrams.beat()
+        return self.is_ending
+
+    def is_left_out(self) -> bool:
+        """Whether what hasn't gone out stays out: TERM leaves out what is replayed, and nothing of a run that goes on."""
+        return self.is_interrupted or self.is_ending and bool(self.is_replay)
+
     def run(self, path: str) -> None:
-        """Publishes a recording and those that follow it, until the run ends."""
+        """Publishes a recording and those that follow it, until the run ends or a stream is broken."""
         next_path: Optional[str] = path
         begins_now = self.given.now
         while next_path:
-            recording = Recording(next_path, err, self.asked, self.datagrams.add)
+            recording = Recording(next_path, err, self.asked)
             try:
-                recording.begin(begins_now, lambda: self.is_ending)
+                recording.begin(begins_now, self.is_given_up)
                 if self.is_replay is None:
                     # With --stay it is a run that goes on, whose first recording may have ended meanwhile.
-                    self.is_replay = recording.was_over and not self.given.stay
-                recording.is_paced = self.is_replay
+                    self.is_replay = recording.has_ended() and not self.given.stay
+                recording.is_paced = self.is_replay and not self.given.fast
                 next_path, begins_now = self.publish(recording), False
+            except Broken as why:
+                err(str(why))
+                self.is_damaged, next_path = True, None
             finally:
-                self.count(recording)
+                self.is_damaged |= recording.is_damaged
                 recording.close()
-
-    def count(self, recording: Recording) -> None:
-        """Adds what was published of a recording."""
-        self.packets += recording.stream.packets.count
-        self.late += recording.stream.late
-        self.is_damaged |= recording.is_damaged
-        if left := recording.merging.left():
-            err(f"{recording.path}: {left} packets are left out")
-        if recording.others:
-            err(f"{recording.path}: {recording.others} packets of another recorder are left out")
 
     def publish(self, recording: Recording) -> Optional[str]:
         """Publishes a recording until it has ended: the one that follows."""
-        # What is there already is waited for.
+        streaming, first_size = Streaming(recording, self.datagrams), recording.size()
+        # What is there already waits for room.
         self.sending.waits = True
         while not (recording.has_all_ends() or recording.has_ended() or self.is_ending):
-            self.go_on(recording)
-            self.sending.waits = False
-        recording.read_rest()
-        recording.put_out(True, self.wait)
-        self.datagrams.flush()
-        # TERM leaves out what is replayed, and nothing of a run that goes on.
-        is_over = self.is_interrupted or self.is_ending and recording.is_paced
+            streaming.go_on()
+            self.sending.waits = recording.place() < first_size
+        recording.follower.end()
+        while not self.is_left_out() and (recording.waiting or recording.read_on()):
+            streaming.go_on()
+        left = recording.leave_rest()
+        streaming.end()
+        self.count(streaming, left)
+        return self.following(recording)
+
+    def count(self, streaming: Streaming, left: int) -> None:
+        """Counts what was late of a recording, and says what is left out."""
+        path = streaming.recording.path
+        self.late += streaming.late
+        if left:
+            err(f"{path}: {left} packets are left out")
+        if streaming.others:
+            err(f"{path}: {streaming.others} packets of another recorder are left out")
+
+    def following(self, recording: Recording) -> Optional[str]:
+        """The recording that follows one; None where it stays out."""
         patience = math.inf if self.given.stay else PATIENCE
-        next_path = next_of(recording, patience, lambda: self.is_ending)
-        if is_over and next_path:
+        next_path = next_of(recording, patience, self.is_given_up)
+        if self.is_left_out() and next_path:
             err(f"{next_path} and what follows it are left out")
-        return None if is_over else next_path
-
-    def go_on(self, recording: Recording) -> None:
-        """Publishes what has come, or waits a little."""
-        has_come, size = False, recording.size()
-        while recording.follower.at < size and recording.read_on():
-            has_come = True
-        recording.put_out(False, self.wait)
-        recording.stream.remind(time.monotonic())
-        self.datagrams.flush()
-        if not has_come:
-            time.sleep(PAUSE)
-
-    def wait(self, seconds: Optional[float]) -> bool:
-        """Waits until a piece is due, where somebody asks for the pace: whether it goes out. One without a time is of a
-        recording that goes on."""
-        if seconds is None:
-            return not self.is_interrupted
-        if seconds > 0 and not self.given.fast:
-            # What is ahead of it goes out first.
-            self.datagrams.flush()
-        ends = time.monotonic() + seconds
-        while not self.given.fast and not self.is_ending and (left := ends - time.monotonic()) > 0:
-            time.sleep(min(left, LONGEST_PAUSE))
-        return not self.is_ending
+        return None if self.is_left_out() else next_path
 
     def end(self) -> None:
         """Prints what was done."""
-        self.datagrams.flush()
         self.sending.end()
         counts = f"datagrams {self.datagrams.number} lost {self.sending.lost_in_all()} late {self.late}"
-        printing.err(f"published packets {self.packets} {counts}")
+        printing.err(f"published packets {self.datagrams.packets} {counts}")
 
 
 def run(arguments: list[str]) -> int:
@@ -199,6 +192,9 @@ def run(arguments: list[str]) -> int:
     except Refused as refused:
         err(str(refused))
         return refused.status
+    except program.Missing as missing:
+        err(str(missing))
+        return Unreadable.status
     publisher.end()
     if publisher.is_interrupted:
         raise KeyboardInterrupt

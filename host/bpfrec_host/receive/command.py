@@ -29,13 +29,12 @@ Writes what bpfrec publish sends into a file: packets of Chapter 11, each once a
   bpfrec receive 239.1.2.3:50000 flight.ch10
 
 ADDRESS:PORT is an address of this machine, as 0.0.0.0:50000 or [::]:50000, or a multicast group, which is joined.
-OUT begins with the first setup record that comes, and what came ahead of it is behind it. Setup records that are repeated
-are left out. Of a further recording of a run a further file is made, as flight_00002.ch10. An OUT that exists is refused
-unless --force is given; `-` is standard output, which gets all recordings.
+OUT begins with the first setup record that comes, and what came ahead of it is behind it. Of each further stream, as of
+the next recording of a run, a further file is made, as flight_00002.ch10. An OUT that exists is refused unless --force is
+given; `-` is standard output, which gets all recordings.
 
-OUT is a whole Chapter 11 file but for its index, which isn't sent: `bpfrec check` says so. Where nothing is missing it says
-else what was sent late alone, as the end of a channel that fell silent. bpfrec audit and bpfrec extract answer as for the
-recording.
+OUT is a Chapter 11 file without an index. Where nothing is missing it is the stream, byte for byte, of which `bpfrec check`
+says what went out late. bpfrec audit and bpfrec extract answer as for the recording.
 """
 MORE = """\
 It ends by Ctrl-C, TERM, --for or --idle, and prints

@@ -8,14 +8,12 @@ from contextlib import suppress
 from typing import Optional
 
 from bpfrec_host.formats.ch11.body import BadBody, End, record_in
-from bpfrec_host.formats.ch11.packet import WORDS, Header
+from bpfrec_host.formats.ch11.packet import Header
 from bpfrec_host.formats.limits import BODY_WORD_LEN, ETHERNET_DATA, HEADER_LEN, RECORD_CHANNEL
 from bpfrec_host.live.names import Names
-from bpfrec_host.publish.packets import SETUP_CHANGED
 from bpfrec_host.streams import STREAM, Output
 
 SETUP = 0x01
-SEQUENCE_AT = 13
 # How many bytes of packets wait for the first setup record, at most, and those that each takes beside its own.
 MOST_KEPT, OVERHEAD = 64 << 20, 512
 # How many files begin in a second, at most.
@@ -40,12 +38,10 @@ class Files:
         self.begun: list[float] = []
         # Channels that have frames or a program, and no end yet.
         self.open: set[int] = set()
-        # By how much the sequence numbers of channel 0 are less than those that came.
-        self.left_out = 0
         self.packets = self.skipped = 0
 
     def take(self, header: Header, packet: bytes) -> None:
-        """Takes a packet: those ahead of a setup record wait for it, and a setup record that is repeated is left out."""
+        """Takes a packet: those ahead of the first setup record wait for it."""
         if header.channel == RECORD_CHANNEL and header.kind == SETUP:
             self.take_setup(header, packet)
         elif self.text is None:
@@ -54,13 +50,12 @@ class Files:
             self.write(header, packet)
 
     def take_setup(self, header: Header, packet: bytes) -> None:
-        """Takes a setup record. One of another text begins another recording, but where it says that it has changed."""
-        word = int.from_bytes(packet[HEADER_LEN : HEADER_LEN + BODY_WORD_LEN], "little")
+        """Takes a setup record. One of another text begins another recording."""
         text = packet[HEADER_LEN + BODY_WORD_LEN : HEADER_LEN + header.data_len]
         if text == self.text:
-            self.left_out += 1
+            self.write(header, packet)
             return
-        if self.has_written and (self.text is None or not word & SETUP_CHANGED):
+        if self.has_written:
             if not self.may_begin(time.monotonic()):
                 self.text = None
                 self.skipped += 1
@@ -87,12 +82,10 @@ class Files:
         self.kept_len = 0
 
     def write_kept(self, header: Header, packet: bytes) -> None:
-        """Writes a setup record, and what was kept behind it. It takes the number ahead of the first of its channel."""
-        first = next((it.sequence for it, _ in self.kept if it.channel == RECORD_CHANNEL), header.sequence + 1)
-        self.write(header, with_sequence(packet, first - 1) if self.kept else packet)
+        """Writes a setup record, and what was kept behind it."""
+        self.write(header, packet)
         for kept in self.kept:
             self.write(*kept)
-        self.left_out += bool(self.kept) and first != header.sequence + 1
         self.kept.clear()
         self.kept_len = 0
 
@@ -118,7 +111,6 @@ class Files:
 
     def begin_next(self) -> None:
         """Begins a further file, under a name that nothing has; a pipe gets all."""
-        self.left_out = 0
         self.open.clear()
         if self.out.name == STREAM:
             return
@@ -130,8 +122,6 @@ class Files:
         self.has_written = True
         self.packets += 1
         self.note_end(header, packet)
-        if header.channel == RECORD_CHANNEL and self.left_out:
-            packet = with_sequence(packet, header.sequence - self.left_out)
         self.out.write(packet)
 
     def note_end(self, header: Header, packet: bytes) -> None:
@@ -143,11 +133,3 @@ class Files:
                 record = record_in(packet[HEADER_LEN : HEADER_LEN + header.data_len])
                 if record:
                     (self.open.discard if isinstance(record, End) else self.open.add)(record.channel)
-
-
-def with_sequence(packet: bytes, sequence: int) -> bytes:
-    """A packet with another sequence number."""
-    head = bytearray(packet[:HEADER_LEN])
-    head[SEQUENCE_AT] = sequence % 256
-    head[WORDS.size :] = (sum(WORDS.unpack_from(head)) & 0xFFFF).to_bytes(HEADER_LEN - WORDS.size, "little")
-    return bytes(head) + packet[HEADER_LEN:]

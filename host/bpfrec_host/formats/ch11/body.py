@@ -24,6 +24,8 @@ from bpfrec_host.formats.limits import (
 
 # A frame's head: its counter in six bytes, two that aren't judged, and its word, which is behind these eight.
 FRAME, WORD_AT = struct.Struct("<QI"), 8
+# Where data have the network identifier of the first frame, the third byte of its word.
+NETWORK_AT = BODY_WORD_LEN + WORD_AT + 2
 # The bits of a frame's word that have its length.
 LENGTH_BITS = MAX_FRAME_LEN
 # The highest bytes of a frame's word that say that it has a mark; those that say that it has neither a mark nor another

@@ -10,11 +10,14 @@ from __future__ import annotations
 import os
 from typing import Callable, Iterator, NamedTuple, Optional, Union
 
-from bpfrec_host.formats.ch11.body import BadBody, End, Program, record_in
+from bpfrec_host.formats.ch11.body import NETWORK_AT, BadBody, End, Program, record_in
 from bpfrec_host.formats.ch11.packet import SYNC, Fault, Header, header_or_fault
 from bpfrec_host.formats.ch11.reader import Reader
 from bpfrec_host.formats.limits import (
+    BODY_WORD_LEN,
     END_RECORD_LEN,
+    ETHERNET_DATA,
+    FRAME_HEADER_LEN,
     HEADER_LEN,
     INSN_LEN,
     MAX_ETHERNET_PACKET_LEN,
@@ -40,6 +43,15 @@ class Front(NamedTuple):
     def data(self) -> bytes:
         """The first bytes of its data."""
         return self.held[HEADER_LEN : HEADER_LEN + self.header.data_len]
+
+    def has_frames(self) -> bool:
+        """Whether it is a packet of a channel's frames."""
+        return self.header.is_plain() and self.header.kind == ETHERNET_DATA and self.header.channel > 0
+
+    def network(self) -> Optional[int]:
+        """The network identifier of its first frame; None where it has none."""
+        data = self.data()
+        return data[NETWORK_AT] if self.has_frames() and len(data) >= BODY_WORD_LEN + FRAME_HEADER_LEN else None
 
 
 class Follower:
@@ -116,6 +128,11 @@ class Follower:
         if header.data_len > len(data):
             data = os.pread(self.descriptor, header.data_len, front.at + HEADER_LEN)
         return record_in(data)
+
+    def channel(self, front: Front) -> int:
+        """The channel that a packet of frames or a record is of; 0 of others."""
+        record = None if front.has_frames() else self.record(front)
+        return front.header.channel if front.has_frames() else record.channel if record else 0
 
     # ---- behind damage
 

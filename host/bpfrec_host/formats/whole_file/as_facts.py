@@ -5,8 +5,8 @@ from __future__ import annotations
 from typing import Any, Optional
 
 from bpfrec_host.formats.ch11.follow import Front
-from bpfrec_host.formats.facts import Facts
-from bpfrec_host.formats.limits import MAX_HOST_LEN, NANOSECONDS_A_SECOND, NANOSECONDS_A_TICK
+from bpfrec_host.formats.facts import Facts, seconds_of
+from bpfrec_host.formats.limits import MAX_HOST_LEN, NANOSECONDS_A_TICK
 from bpfrec_host.formats.whole_file import HEADER, SETUP, TIME, Clock, Setup, Unread, Wrong, clock_in
 from bpfrec_host.formats.whole_file.packets import FRAMES, lengths_in, packet_of
 
@@ -50,18 +50,14 @@ class WholeFile:
             return None
         # The first holds from counter 0 on, wherever the first time packet stands.
         counters = [0, *(it.counter for it in self.clocks[1:])]
-        origins = [{"origin": zero_of(it), "counter": at} for at, it in zip(counters, self.clocks)]
+        origins = [
+            {"origin": seconds_of(it.zero() * NANOSECONDS_A_TICK), "counter": at}
+            for at, it in zip(counters, self.clocks)
+        ]
         interfaces = [{"channel": number, "interface": name} for number, name in self.names().items()]
         said: dict[str, Any] = {"facts": 1, "origins": origins, "losses": [], "interfaces": interfaces}
         host, program = (self.setup.host(), self.setup.program()) if self.setup else (None, None)
         return Facts({**said, "host": (host or "")[:MAX_HOST_LEN], "program": program or ""})
-
-
-def zero_of(clock: Clock) -> str:
-    """The time of counter 0, in seconds as facts have it."""
-    nanoseconds = clock.zero() * NANOSECONDS_A_TICK
-    seconds, rest = divmod(abs(nanoseconds), NANOSECONDS_A_SECOND)
-    return f"{'-' if nanoseconds < 0 else ''}{seconds}.{rest:09}"
 
 
 def is_own(kind: int) -> bool:

@@ -7,8 +7,7 @@ from itertools import count
 from typing import IO, Iterator, NamedTuple, Optional, Union
 
 from bpfrec_host.chapter11.networks import networks_of
-from bpfrec_host.chapter11.setup import Asked, moments_of, setup_text
-from bpfrec_host.chapter11.several import Numbered, Recorded, first_origin, judge_recorders, numbered, told_of
+from bpfrec_host.chapter11.setup import Asked, setup_text
 from bpfrec_host.formats.ch11 import Damage, End, Frames, Packet, Program, Reader, word_sum
 from bpfrec_host.formats.ch11.body import FRAME, LENGTH_BITS
 from bpfrec_host.formats.ch11.packet import header_bytes
@@ -23,6 +22,7 @@ from bpfrec_host.formats.limits import (
     NANOSECONDS_A_TICK,
     RECORD_CHANNEL,
 )
+from bpfrec_host.joined.several import Numbered, Recorded, first_origin, judge_recorders, moments_of, numbered, told_of
 from bpfrec_host.streams import Refused
 
 # Where a record has its channel ID.
@@ -131,7 +131,7 @@ class Joined:
         networks = {
             numbers[channel]: network
             for recorded, numbers in self.recordings
-            for channel, network in networks_of(recorded.path).items()
+            for channel, network in networks_of(recorded.path).of_all().items()
         }
         return setup_text(self.asked, told_of(self.recordings, self.origin), networks)
 

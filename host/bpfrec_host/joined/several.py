@@ -6,11 +6,11 @@ from collections import Counter
 from typing import NamedTuple, Optional
 
 from bpfrec_host import printing
-from bpfrec_host.chapter11.setup import Told, moments_of
+from bpfrec_host.chapter11.setup import Told, holding, judge_scales, told_by
 from bpfrec_host.formats.ch11 import Fault
 from bpfrec_host.formats.channel_ids import unique_ids
-from bpfrec_host.formats.facts import Facts, Origin
-from bpfrec_host.formats.limits import MAX_CHANNEL_ID
+from bpfrec_host.formats.facts import Facts, Origin, seconds_of
+from bpfrec_host.formats.limits import MAX_CHANNEL_ID, NANOSECONDS_A_SECOND
 from bpfrec_host.pcapng.index import Index
 from bpfrec_host.streams import Refused, refuse_twice
 
@@ -80,10 +80,19 @@ def numbered(recordings: list[Recorded]) -> list[Numbered]:
     return [Numbered(it, dict(zip(it.channels, following))) for it in recordings]
 
 
+def moments_of(known: Facts, ahead: Optional[int]) -> list[tuple[int, int]]:
+    """The counters from which on origins hold, and their moments in UTC; of a scale that nobody knows a clock is so many
+    seconds ahead."""
+    told = told_by(known)
+    judge_scales(told, ahead)
+    later = (ahead or 0) * NANOSECONDS_A_SECOND
+    return [(it.counter, it.moment if it.scale else it.moment - later) for it in holding(told)]
+
+
 def first_origin(recordings: list[Recorded], ahead: Optional[int]) -> Origin:
     """The clock of the file: the earliest moment in UTC that any counter 0 had."""
-    moments = [moment for it in recordings for _, moment in moments_of(it.facts, ahead)]
-    return Origin("", min(moments), 0, None)
+    moment = min(moment for it in recordings for _, moment in moments_of(it.facts, ahead))
+    return Origin(seconds_of(moment), moment, 0, None)
 
 
 def told_of(joined: list[Numbered], origin: Origin) -> Told:

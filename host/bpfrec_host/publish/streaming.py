@@ -1,0 +1,93 @@
+"""A recording as streams of packets: one, and another where its clock gets a new origin or a further channel comes."""
+
+from __future__ import annotations
+
+import time
+from typing import Optional
+
+from bpfrec_host.follow.growing import PAUSE
+from bpfrec_host.formats.facts import Origin
+from bpfrec_host.publish.datagrams import Datagrams
+from bpfrec_host.publish.recording import Placed, Recording
+from bpfrec_host.publish.stream import Broken, Stream
+
+# How much is read of the recording at once.
+PIECE = 1 << 18
+
+
+class Streaming:
+    """A recording that goes out in datagrams."""
+
+    def __init__(self, recording: Recording, datagrams: Datagrams) -> None:
+        self.recording, self.datagrams = recording, datagrams
+        self.stream: Optional[Stream] = None
+        # By what the stream was begun.
+        self.channels: dict[int, int] = {}
+        self.origins: list[Origin] = []
+        # How many bytes of the next packet it has taken, and whether it takes no more by now.
+        self.written, self.is_full = 0, False
+        self.late = self.others = 0
+
+    def go_on(self) -> None:
+        """Writes what is due into the stream, and sends what comes of it; or waits a little."""
+        has_come = not self.recording.waiting and self.recording.read_on()
+        pause = self.write_due()
+        if self.stream:
+            self.stream.wait(0.0 if has_come else pause, self.is_full)
+            self.stream.read()
+            if self.stream.is_over:
+                self.end()
+        elif not has_come:
+            time.sleep(pause)
+        self.datagrams.beat()
+
+    def write_due(self) -> float:
+        """Writes the packets that are due, as far as the stream takes them: for how many seconds nothing else is due."""
+        self.is_full = False
+        while self.recording.waiting and not self.is_full:
+            due = self.recording.due_in(self.recording.waiting[0])
+            if due > 0:
+                return min(due, PAUSE)
+            self.write()
+        return PAUSE
+
+    def write(self) -> None:
+        """Writes the next packet into its stream, as far as that takes it."""
+        if not self.written and not self.is_of_stream(self.recording.waiting[0]):
+            self.begin()
+        placed = self.recording.waiting[0]
+        data = self.recording.read_at(placed.at + self.written, min(placed.length - self.written, PIECE))
+        assert self.stream
+        taken = self.stream.write(data)
+        self.written += taken
+        self.is_full = taken < len(data)
+        if self.written == placed.length:
+            self.written = 0
+            self.recording.pass_by(self.recording.waiting.popleft())
+
+    def is_of_stream(self, placed: Placed) -> bool:
+        """Whether a packet goes into the stream that was begun last."""
+        is_named = not placed.channel or placed.channel in self.channels
+        return self.stream is not None and is_named and self.origins == self.recording.origins()
+
+    def begin(self) -> None:
+        """Begins another stream behind the last one, from the next packet on."""
+        self.end()
+        recording = self.recording
+        self.channels, self.origins = recording.channels(), recording.origins()
+        self.stream = Stream(
+            recording.setup(self.channels, recording.place()), self.datagrams.add, self.datagrams.flush
+        )
+        recording.repeat_filters()
+
+    def end(self) -> None:
+        """Ends the stream: what is left of it goes out."""
+        stream, self.stream = self.stream, None
+        if stream is None:
+            return
+        try:
+            late, others = stream.end()
+        except Broken as why:
+            raise Broken(f"{self.recording.path}: {why}") from None
+        self.late += late
+        self.others += others
