@@ -11,7 +11,7 @@ import pytest
 from bpfrec_host.formats import facts
 from bpfrec_host.live import arguments, folder
 from bpfrec_host.live.capture import Capture
-from bpfrec_host.live.capture_lines import CaptureLines
+from bpfrec_host.live.child_lines import ChildLines
 from bpfrec_host.live.events import Counted, Event, Events, Loss, LostInAll, Origin, event_in
 from bpfrec_host.live.facts import utc_of_origin
 from bpfrec_host.live.interruptions import MOST_KEPT, Interruptions, Link
@@ -183,7 +183,7 @@ class Calls:
 class Written:
     """A pipe whose writing end the test has, as the capture has it."""
 
-    def __init__(self, lines: CaptureLines, loop: Calls) -> None:
+    def __init__(self, lines: ChildLines, loop: Calls) -> None:
         self.loop, self.writer = loop, os.dup(lines.writer)
         lines.follow()
 
@@ -204,7 +204,7 @@ def test_lines_of_a_pipe_are_taken_once_they_are_whole_also_those_of_its_end() -
     """With the bytes that are no UTF-8; what has no line end is none."""
     taken: list[str] = []
     loop = Calls()
-    lines = CaptureLines(cast(Loop, loop), taken.append)
+    lines = ChildLines(cast(Loop, loop), taken.append)
     pipe = Written(lines, loop)
     pipe.write(b"one\ntw")
     pipe.write(b"o\n\xff\n")

@@ -14,6 +14,7 @@ from scripted import (
     Counts,
     DiskView,
     EndedView,
+    GroundView,
     LinkView,
     RecordingView,
     Second,
@@ -72,6 +73,18 @@ LOST = Counts(1_000, 60_000, 7, 2, 1, 0)
 NO = (EndedView(1, "a.ch11", 1, 1, "no 5 NoEnd 2"), EndedView(2, "b.ch11", 1, 0, "yes other 0"))
 # What is just no alarm, what is just one, and its name and level.
 CASES = {
+    "ground": (
+        VIEW._replace(ground=(GroundView("a:1", 9, 2, 0, True, 60.1),)),
+        VIEW._replace(ground=(GroundView("a:1", 9, 2, 0, True, 60.0),)),
+        "ground",
+        "alarm",
+    ),
+    "publisher": (
+        VIEW._replace(state="ended", ground=(GroundView("a:1", 9, 0, 0, False),)),
+        VIEW._replace(ground=(GroundView("b:1", 9, 0, 0, True), GroundView("a:1", 9, 0, 0, False))),
+        "ground",
+        "alarm",
+    ),
     "away": (of_channel(), of_channel(link=LinkView(True, "down", 0.0, 1)), "away", "alarm"),
     "back": (of_channel(), of_channel(link=LinkView(False, "down", 59.9, 1)), "away", "alarm"),
     "was away": (of_channel(), of_channel(link=LinkView(False, "gone", 60.0, 2)), "was_away", "warning"),

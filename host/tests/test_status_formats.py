@@ -10,6 +10,7 @@ from typing import NamedTuple
 
 import pytest
 from bpfrec_host.formats.clock_state import ClockState
+from bpfrec_host.live.ports import Sent
 from bpfrec_host.live.status.as_json import kept_rates, offered_rates
 from bpfrec_host.live.status.view import Second
 from schemas import FORMATS, faults, schema_of
@@ -257,6 +258,7 @@ def test_the_page_has_each_metric_and_each_alarm(flights: dict) -> None:
         for row in re.findall(r"^\| (`.*?`) \| (?:gauge|counter)", rows, re.MULTILINE)
         for it in re.findall(r"`(\w+)`", row)
     }
+    flights["losing"].status.published("192.0.2.1:5000", Sent(1, 0, 0), flights["losing"].now())
     told = {
         it.name
         for flight in flights.values()

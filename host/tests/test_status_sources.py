@@ -14,7 +14,7 @@ from bpfrec_host.formats.clock_state import ClockState
 from bpfrec_host.live.folder import Folder
 from bpfrec_host.live.observers import Observers
 from bpfrec_host.live.operands import Route
-from bpfrec_host.live.ports import Counts, Observer, Setup
+from bpfrec_host.live.ports import Counts, Observer, Sent, Setup
 from bpfrec_host.live.recorder import Recorder
 from bpfrec_host.live.status import as_json, metrics
 from bpfrec_host.live.status.growth import Kept, kept_by
@@ -26,6 +26,7 @@ from bpfrec_host.live.status.view import (
     DiskView,
     EndedView,
     FilterView,
+    GroundView,
     LinkView,
     MarkView,
     RecordingView,
@@ -73,6 +74,7 @@ VIEW = View(
     # Times are of the millisecond that has begun.
     utc=1_764_590_400.9876,
     clock=ClockView(ClockState(True, 0.000125, "chrony (a)"), 0.25),
+    ground=(GroundView("192.0.2.1:5000", 401, 402, 403, True, 404.0),),
 )
 STATUS: dict[str, Any] = {
     "age": 0.8,
@@ -119,6 +121,7 @@ STATUS: dict[str, Any] = {
     ],
     "recordings": [{"number": 2, "name": "e.ch11", "bytes": 307, "status": 3, "audit": "yes other 0"}],
     "audits": {"yes": 308, "no": 309, "none": 310},
+    "ground": [{"address": "192.0.2.1:5000", "datagrams": 401, "lost": 402, "late": 403, "is_sent_to": True}],
     "marks": [{"name": "f.ch11", "counter": 311, "time": "2025-12-01T12:00:00.2500000Z", "text": "text", "age": 4.5}],
     "host": "fc1",
     "utc": "2025-12-01T12:00:00.987Z",
@@ -139,6 +142,10 @@ OF_RUN = {
     'audits_total{answer="yes"}': 308,
     'audits_total{answer="no"}': 309,
     'audits_total{answer="none"}': 310,
+    'ground_datagrams_total{address="192.0.2.1:5000"}': 401,
+    'ground_lost_datagrams_total{address="192.0.2.1:5000"}': 402,
+    'ground_late_packets_total{address="192.0.2.1:5000"}': 403,
+    'ground_is_sent_to{address="192.0.2.1:5000"}': 1,
 }
 OF_CHANNEL = {
     "offered_frames_total": 201,
@@ -199,6 +206,24 @@ def test_a_packet_has_as_many_frames_and_bytes_as_it_says(count: int) -> None:
     header = Header(7, 0, 4 + 12 * count + 61, 0, 0, 0, 0x68, 0)
     found = kept_by(header, count.to_bytes(4, "little"))
     judge("these", found == Kept(7, count, 61), found)
+
+
+def test_what_is_sent_to_the_ground_is_that_of_all_publishers_of_a_run() -> None:
+    """One that has died, and the one that was begun again, whose counts begin anew."""
+    model = Model(0.0, 1.0)
+    told: list[tuple[Any, tuple[int, int, int, bool, Any]]] = [
+        (Sent(100, 0, 0), (100, 0, 0, True, None)),
+        (Sent(200, 3, 1), (200, 3, 1, True, 0.0)),
+        (Sent(300, 3, 1), (300, 3, 1, True, 1.0)),
+        (None, (300, 3, 1, False, 2.0)),
+        (Sent(50, 0, 0), (350, 3, 1, True, 3.0)),
+    ]
+    for at, (sent, wanted) in enumerate(told):
+        model.published("a:1", sent, float(at))
+        (found,) = model.view(float(at)).ground
+        judge(f"after {sent}", found == GroundView("a:1", *wanted), found)
+    model.published("b:1", Sent(1, 0, 0), 9.0)
+    judge("each address is another one", [it.address for it in model.view(9.0).ground] == ["a:1", "b:1"])
 
 
 class Begun(NamedTuple):

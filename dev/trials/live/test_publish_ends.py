@@ -26,6 +26,7 @@ from recordings import (
     recordings,
     settings_of,
 )
+from served import address_in, asked, status_of
 from support import LIVE, TOOLS, Running, judge, judge_quietly, present, wait_for
 from whole_file import SETUP, TIME
 from whole_file_parts import parts_of
@@ -205,3 +206,29 @@ def test_term_has_all_recordings_of_a_run_sent(work: Path) -> None:
     (work / "all.ch11").write_bytes(packets_in(station.close()))
     numbers = numbers_in([records(extracted(work, work / "all.ch11", 1))])
     judge("all frames", numbers == list(range(numbers[0], sent)), (len(numbers), sent))
+
+
+def test_the_status_has_what_is_sent_to_each_station(work: Path) -> None:
+    """What was sent by one that died counts on, and while it doesn't run there is an alarm; so there is where nobody
+    listens."""
+    station, deaf, out = Station(), f"127.0.0.1:{free_port()}", work / "flight.ch11"
+    running = begin(work, out, "--quiet", "--status", "0", "--publish", station.address, "--publish", deaf)
+    address, traffic = address_in(running.told()), Traffic()
+
+    def station_is(key: str, least: int) -> bool:
+        return any(it["address"] == station.address and it[key] >= least for it in status_of(address)["ground"])
+
+    wait_for("it is sent to", lambda: station_is("datagrams", 5), 30)
+    wait_for("the other loses", lambda: any(it["lost"] for it in status_of(address)["ground"]), 30)
+    alarms = [it["text"] for it in status_of(address)["alarms"] if it["name"] == "ground"]
+    judge("one loses", len(alarms) == 1 and alarms[0].startswith(f"{deaf}: ") and " were lost" in alarms[0], alarms)
+    sent = next(it["datagrams"] for it in status_of(address)["ground"] if it["address"] == station.address)
+    (pid,) = [it for it, words in processes_of(out).items() if "--stay" in words and station.address in words]
+    os.kill(pid, signal.SIGKILL)
+    text = f"{station.address}: nothing is sent: its publisher has died, and begins again"
+    wait_for("an alarm", lambda: text in [it["text"] for it in status_of(address)["alarms"]], 10)
+    wait_for("it is sent to again", lambda: station_is("is_sent_to", 1) and station_is("datagrams", sent + 1), 30)
+    judge("the metrics too", f'ground_is_sent_to{{address="{deaf}"}} 1\n'.encode() in asked(address, "metrics"))
+    running.interrupt()
+    traffic.end()
+    judge("it ends well", running.ended()[0] == 0 and is_approved(out), running.told())

@@ -9,7 +9,7 @@ from typing import Callable, Optional
 
 from bpfrec_host.live import children, system
 from bpfrec_host.live.arguments import Arguments
-from bpfrec_host.live.capture_lines import CaptureLines
+from bpfrec_host.live.child_lines import ChildLines
 from bpfrec_host.live.events import Counted, event_in
 from bpfrec_host.live.folder import Folder
 from bpfrec_host.live.loop import Loop
@@ -27,15 +27,15 @@ class Capture:
         self.program, self.given, self.folder, self.loop = program, given, folder, loop
         self.child: Optional[children.Child] = None
         # What comes here of it: the lines that it prints, and its counts.
-        self.lines: Optional[CaptureLines] = None
+        self.lines: Optional[ChildLines] = None
         self.has_table = False
-        self.counts: Optional[CaptureLines] = None
+        self.counts: Optional[ChildLines] = None
         # What it has counted last, by interface.
         self.last: dict[str, Counts] = {}
 
     def read_lines(self, err: Callable[[str], None], has_table: bool) -> None:
         """Has the lines come here that it prints; where there is a table without those of each second."""
-        self.lines, self.has_table = CaptureLines(self.loop, err), has_table
+        self.lines, self.has_table = ChildLines(self.loop, err), has_table
 
     def read_counts(self, counted: Callable[[str, Counts], None]) -> None:
         """Has its counts come here each second, also where it prints no line of them."""
@@ -46,7 +46,7 @@ class Capture:
                 self.last[event.interface] = event.counts
                 counted(event.interface, event.counts)
 
-        self.counts = CaptureLines(self.loop, take)
+        self.counts = ChildLines(self.loop, take)
 
     def arguments(self) -> list[str]:
         """Its command line."""
@@ -77,7 +77,7 @@ class Capture:
         for pipe in self.pipes():
             pipe.follow()
 
-    def pipes(self) -> list[CaptureLines]:
+    def pipes(self) -> list[ChildLines]:
         """The pipes by which lines come here."""
         return [it for it in (self.counts, self.lines) if it]
 

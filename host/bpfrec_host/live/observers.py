@@ -9,7 +9,7 @@ from bpfrec_host.formats.clock_state import ClockState
 from bpfrec_host.live.folder import Folder
 from bpfrec_host.live.interruptions import UNREAD, Link
 from bpfrec_host.live.noted import Entry
-from bpfrec_host.live.ports import Counts, Marked, Observer, Setup
+from bpfrec_host.live.ports import Counts, Marked, Observer, Sent, Setup
 from bpfrec_host.live.recorder import Recorder
 
 # What is said of the status where nobody observes the run.
@@ -54,6 +54,11 @@ class Observers:
                 )
             if self.observer:
                 self.observer.linked(link.interface, link.away, time.monotonic())
+
+    def published(self, address: str, sent: Optional[Sent]) -> None:
+        """So much was sent to an address by now; None where its publisher has died."""
+        if self.observer:
+            self.observer.published(address, sent, time.monotonic())
 
     def changed(self, channel: int, version: int, name: str) -> None:
         """A line changed a filter of the recording that goes on."""

@@ -95,6 +95,15 @@ class Counts(NamedTuple):
     waited: int
 
 
+class Sent(NamedTuple):
+    """What a publisher has sent to an address since it was begun: datagrams, those of them that were lost here, and
+    packets that lay over a second behind one ahead of them."""
+
+    datagrams: int
+    lost: int
+    late: int
+
+
 class Marked(NamedTuple):
     """A mark of a recording: the counter of a frame that comes then, the time in UTC, and the text."""
 
@@ -116,6 +125,9 @@ class Observer(Protocol):
 
     def linked(self, interface: str, away: Optional[str], now: float) -> None:
         """An interface brings no frames from now on, for this reason, or by None it does again."""
+
+    def published(self, address: str, sent: Optional[Sent], now: float) -> None:
+        """So much was sent to an address by now; None where its publisher has died."""
 
     def filter_changed(self, channel: int, version: int, name: str) -> None:
         """A line changed a filter of the recording that goes on, to one of this name."""

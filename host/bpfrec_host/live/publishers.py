@@ -6,16 +6,18 @@ The recording waits for none of them, and its status isn't changed by one.
 from __future__ import annotations
 
 import os
+import re
 import signal
 import subprocess
 import time
 from typing import Callable, Optional
 
 from bpfrec_host.live import children
-from bpfrec_host.live.capture_lines import CaptureLines
+from bpfrec_host.live.child_lines import ChildLines
 from bpfrec_host.live.guard import Guard
 from bpfrec_host.live.loop import Loop
 from bpfrec_host.live.model import KILLED
+from bpfrec_host.live.ports import Sent
 from bpfrec_host.live.targets import Target
 from bpfrec_host.starting import command_of
 
@@ -25,16 +27,21 @@ NICE = 5
 # it dies soon. For how long it has to run so that it didn't; and for how many seconds it may send what is left at the end
 # of a run.
 AGAIN_AFTER, MOST_DOUBLINGS, LONG, LAST = 2.0, 4, 60.0, 2.0
+COUNTS = re.compile(r"datagrams ([0-9]+) lost ([0-9]+) late ([0-9]+)")
+# Takes what was sent to an address by now; None where its publisher has died.
+Observe = Callable[[str, Optional[Sent]], None]
 
 
 class Publisher:
     """Publishes a run at one address."""
 
-    def __init__(self, target: Target, loop: Loop, guard: Guard, err: Callable[[str], None]) -> None:
+    def __init__(
+        self, target: Target, loop: Loop, guard: Guard, err: Callable[[str], None], observe: Observe
+    ) -> None:
         self.target, self.loop, self.guard = target, loop, guard
-        self.print_line = err
+        self.print_line, self.observe = err, observe
         self.child: Optional[children.Child] = None
-        self.lines: Optional[CaptureLines] = None
+        self.pipes: list[ChildLines] = []
         # The recording that goes on, when it was begun last and is begun again, and how often it has died soon.
         self.out: Optional[str] = None
         self.begun = 0.0
@@ -56,30 +63,33 @@ class Publisher:
         """Starts it, or says that this can't be done."""
         assert self.out
         self.begun, self.due = time.monotonic(), None
-        lines = CaptureLines(self.loop, self.take_line)
+        lines, counts = ChildLines(self.loop, self.take_line), ChildLines(self.loop, self.take_counts)
         words = [
             *command_of("publish", NICE),
             "--stay",
+            f"--counts={counts.writer}",
             *options,
             *self.target.arguments(),
             "--",
             os.path.abspath(self.out),
         ]
         try:
-            self.child = self.started([*words, str(self.target.address)], lines)
+            self.child = self.started([*words, str(self.target.address)], lines, counts)
         except OSError as error:
-            os.close(lines.writer)
-            lines.end()
+            for pipe in (lines, counts):
+                os.close(pipe.writer)
+                pipe.end()
             self.die(f"can't be started: {error.strerror}")
             return
-        self.lines = lines
-        lines.follow()
+        self.pipes = [lines, counts]
+        for pipe in self.pipes:
+            pipe.follow()
         self.loop.follow(self.child, self.ended)
 
-    def started(self, words: list[str], lines: CaptureLines) -> children.Child:
-        """The program, which prints into a pipe of ours."""
+    def started(self, words: list[str], lines: ChildLines, counts: ChildLines) -> children.Child:
+        """The program, which prints into a pipe of ours, and counts into another one."""
         with open(self.guard.lifeline_of_live(), "rb", buffering=0) as lifeline:
-            manner = children.Manner([self.guard.all], ends_with=lifeline.fileno())
+            manner = children.Manner([self.guard.all, counts.writer], ends_with=lifeline.fileno())
             return children.start(words, (subprocess.DEVNULL, subprocess.DEVNULL, lines.writer), manner)
 
     def take_line(self, line: str) -> None:
@@ -88,11 +98,17 @@ class Publisher:
             line = line[len(prefix) :] if line.startswith(prefix) else line
         self.err(line)
 
+    def take_counts(self, line: str) -> None:
+        """It has counted what it sent by now."""
+        found = COUNTS.fullmatch(line)
+        if found:
+            self.observe(str(self.target.address), Sent(*map(int, found.groups())))
+
     def ended(self, status: int) -> None:
         """It has ended, which it does by itself only where something is wrong."""
-        if self.lines:
-            self.lines.end()
-        self.child = self.lines = None
+        for pipe in self.pipes:
+            pipe.end()
+        self.child, self.pipes = None, []
         how = f"ended by signal {status - KILLED}" if status > KILLED else f"ended with status {status}"
         if not self.is_ending:
             self.die(how)
@@ -101,6 +117,7 @@ class Publisher:
 
     def die(self, why: str) -> None:
         """It died: it is begun again after a pause."""
+        self.observe(str(self.target.address), None)
         now = time.monotonic()
         self.deaths = 1 if now - self.begun > LONG else self.deaths + 1
         pause = AGAIN_AFTER * 2 ** min(self.deaths - 1, MOST_DOUBLINGS)
@@ -126,9 +143,11 @@ class Publisher:
 class Publishers:
     """Those of a run."""
 
-    def __init__(self, targets: list[Target], loop: Loop, guard: Guard, err: Callable[[str], None]) -> None:
+    def __init__(
+        self, targets: list[Target], loop: Loop, guard: Guard, err: Callable[[str], None], observe: Observe
+    ) -> None:
         self.loop = loop
-        self.all = [Publisher(it, loop, guard, err) for it in targets]
+        self.all = [Publisher(it, loop, guard, err, observe) for it in targets]
 
     def begin(self, out: str) -> None:
         """A recording has begun."""

@@ -75,7 +75,7 @@ class Run:
         self.recordings = Recordings(self.writer, self.outputs, self.err)
         self.audits = Audits(self.loop, programs.bpfrec, self.guard, self.audited, self.err)
         self.ended = self.made_ended()
-        self.publishers = Publishers(given.targets, self.loop, self.guard, self.err)
+        self.publishers = Publishers(given.targets, self.loop, self.guard, self.err, self.observers.published)
         self.end_of_run = EndOfRun(given.seconds, self.end)
         self.alarm_command = AlarmCommand(given.on_alarm, self.loop, self.console)
         self.clock = ClockWatch(self.loop, given.clock_error, self.err, self.observers.clock_seen)

@@ -19,6 +19,7 @@ from bpfrec_host.chapter11.setup import Asked
 from bpfrec_host.follow.growing import PATIENCE, next_of
 from bpfrec_host.follow.runs import first_of
 from bpfrec_host.formats.transfer import DATAGRAM_STEP, MAX_DATAGRAM_LEN, MIN_DATAGRAM_LEN, USUAL_DATAGRAM_LEN
+from bpfrec_host.publish.counting import Counting
 from bpfrec_host.publish.datagrams import Datagrams
 from bpfrec_host.publish.recording import Recording
 from bpfrec_host.publish.sending import Route, Sending
@@ -72,6 +73,8 @@ def parser() -> Parser:
     origin = "where there are no facts, the moment of counter 0 in UTC, in seconds since 1970"
     made.add_argument("--origin", metavar="SECONDS", type=origin_of, help=origin)
     add_setup_options(made)
+    # What live has it write counts to.
+    made.add_argument("--counts", metavar="FD", type=int, help=argparse.SUPPRESS)
     made.add_argument("recording", metavar="RECORDING")
     made.add_argument("address", metavar="ADDRESS:PORT", type=udp_address)
     return made
@@ -92,6 +95,7 @@ class Publisher:
             Route(given.address, given.ttl, given.interface), lambda line: err(f"{given.address}: {line}")
         )
         self.datagrams = Datagrams(given.datagram, self.sending.send)
+        self.counting = Counting(given.counts)
         self.late = 0
         self.is_damaged = False
         # Whether the first recording had ended, so that all go out at their pace; one that follows may have ended since.
@@ -107,7 +111,12 @@ class Publisher:
     def is_given_up(self) -> bool:
         """Whether nothing is waited for any more; while it waits, it shows that it is there."""
         self.datagrams.beat()
+        self.tell_counts()
         return self.is_ending
+
+    def tell_counts(self, is_last: bool = False) -> None:
+        """Tells whoever began it what went out by now."""
+        self.counting.tell(self.datagrams.number, self.sending.lost_in_all(), self.late, is_last)
 
     def is_left_out(self) -> bool:
         """Whether what hasn't gone out stays out: TERM leaves out what is replayed, and nothing of a run that goes on."""
@@ -140,10 +149,12 @@ class Publisher:
         self.sending.waits = True
         while not (recording.has_all_ends() or recording.has_ended() or self.is_ending):
             streaming.go_on()
+            self.tell_counts()
             self.sending.waits = recording.place() < first_size
         recording.follower.end()
         while not self.is_left_out() and (recording.waiting or recording.read_on()):
             streaming.go_on()
+            self.tell_counts()
         left = recording.leave_rest()
         streaming.end()
         self.count(streaming, left)
@@ -169,6 +180,7 @@ class Publisher:
     def end(self) -> None:
         """Prints what was done."""
         self.sending.end()
+        self.tell_counts(is_last=True)
         counts = f"datagrams {self.datagrams.number} lost {self.sending.lost_in_all()} late {self.late}"
         printing.err(f"published packets {self.datagrams.packets} {counts}")
 

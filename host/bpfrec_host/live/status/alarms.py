@@ -67,6 +67,7 @@ def of_whole(view: View) -> Iterator[Alarm]:
     yield from of_disk(view)
     yield from of_sync(view)
     yield from of_clock(view)
+    yield from of_ground(view)
     if view.unsigned:
         yield Alarm("unsigned", ALARM, None, "not signed", view.unsigned)
     if view.unhashed:
@@ -119,6 +120,17 @@ def of_clock(view: View) -> Iterator[Alarm]:
     fault = view.clock.fault()
     if fault and view.state != "ended":
         yield Alarm("clock", ALARM, None, "clock", fault)
+
+
+def of_ground(view: View) -> Iterator[Alarm]:
+    """Whether what is recorded is sent to each ground station."""
+    for station in view.ground if view.state != "ended" else ():
+        if not station.is_sent_to:
+            text = f"{station.address}: nothing is sent: its publisher has died, and begins again"
+            yield Alarm("ground", ALARM, None, "not sent", text)
+        elif station.lost_age is not None and station.lost_age <= LOST_SECONDS:
+            text = f"{station.address}: {station.lost:,} of {station.datagrams:,} datagrams were lost"
+            yield Alarm("ground", ALARM, None, "sent in part", f"{text}, last {duration(station.lost_age)} ago")
 
 
 # ---- of a channel

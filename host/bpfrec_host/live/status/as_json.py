@@ -8,7 +8,7 @@ from typing import Any, Optional
 
 from bpfrec_host.formats.facts import utc_of
 from bpfrec_host.live.status.alarms import Alarm, level_of
-from bpfrec_host.live.status.view import ChannelView, MarkView, Second, View
+from bpfrec_host.live.status.view import ChannelView, GroundView, MarkView, Second, View
 
 # The form of the object.
 FORM = 1
@@ -50,6 +50,7 @@ def object_of(view: View, alarms: tuple[Alarm, ...]) -> dict[str, Any]:
         "channels": [channel_object(it, alarms) for it in view.channels],
         "recordings": [{**it._asdict(), "name": printable(it.name)} for it in view.recordings],
         "audits": view.audits._asdict(),
+        "ground": [ground_object(it) for it in view.ground],
         "marks": [mark_object(it) for it in view.marks],
         "host": printable(view.host),
         "utc": utc_text(view.utc),
@@ -81,6 +82,11 @@ def channel_object(channel: ChannelView, alarms: tuple[Alarm, ...]) -> dict[str,
         "has_ended": channel.has_ended,
         "history": {name: column(channel.history, at) for at, name in enumerate(Second._fields)},
     }
+
+
+def ground_object(station: GroundView) -> dict[str, Any]:
+    """What the object has of a ground station."""
+    return {key: value for key, value in station._asdict().items() if key != "lost_age"}
 
 
 def mark_object(mark: MarkView) -> dict[str, Any]:

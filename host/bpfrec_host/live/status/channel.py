@@ -7,7 +7,16 @@ from typing import Optional
 
 from bpfrec_host.live.expressions import ALL
 from bpfrec_host.live.ports import Counts, Setup
-from bpfrec_host.live.status.view import HISTORY_SECONDS, ChannelView, FilterView, LinkView, Second, Unkept, lost
+from bpfrec_host.live.status.view import (
+    HISTORY_SECONDS,
+    ChannelView,
+    FilterView,
+    LinkView,
+    Second,
+    Unkept,
+    lost,
+    since,
+)
 
 # Counts that come closer together than this make no rate of their own, and those that are older tell none, in seconds.
 LEAST_BETWEEN, MOST_BETWEEN = 0.5, 2.5
@@ -160,8 +169,3 @@ def rates_between(begin: tuple[float, Counts], end: tuple[float, Counts]) -> tup
     """Frames and bytes a second between two counts; one that goes back is taken as nothing."""
     length, before, after = end[0] - begin[0], begin[1], end[1]
     return max(after.frames - before.frames, 0) / length, max(after.bytes - before.bytes, 0) / length
-
-
-def since(moment: Optional[float], now: float) -> Optional[float]:
-    """How long ago a moment was; none is in the future."""
-    return None if moment is None else max(now - moment, 0)

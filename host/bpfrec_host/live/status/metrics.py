@@ -18,6 +18,7 @@ ALARMS = (
     "clock",
     "damaged",
     "disk",
+    "ground",
     "keeps_nothing",
     "lost",
     "no_counts",
@@ -93,7 +94,7 @@ CHANNEL_METRICS = (
 
 def text_of(view: View, alarms: tuple[Alarm, ...]) -> str:
     """All metrics but the age, which is that of the answer."""
-    return "".join([*of_run(view), *of_alarms(alarms), *of_channels(view)])
+    return "".join([*of_run(view), *of_ground(view), *of_alarms(alarms), *of_channels(view)])
 
 
 def with_age(text: str, age: float) -> str:
@@ -119,6 +120,19 @@ def of_run(view: View) -> Iterator[str]:
     yield from of_clock(view.clock.state)
     samples: list[Sample] = [((("answer", name),), count) for name, count in audits.items()]
     yield family("audits_total", COUNTER, "Recordings that have ended, by what the audit said.", samples)
+
+
+def of_ground(view: View) -> Iterator[str]:
+    """The metrics of the ground stations."""
+    told = (
+        ("datagrams_total", COUNTER, "Datagrams that were sent to a ground station.", lambda it: it.datagrams),
+        ("lost_datagrams_total", COUNTER, "Those of them that were lost here.", lambda it: it.lost),
+        ("late_packets_total", COUNTER, "Packets that were sent late.", lambda it: it.late),
+        ("is_sent_to", GAUGE, "1 while its publisher runs, else 0.", lambda it: int(it.is_sent_to)),
+    )
+    for name, kind, text, value in told:
+        samples: list[Sample] = [((("address", it.address),), value(it)) for it in view.ground]
+        yield family(f"ground_{name}", kind, text, samples)
 
 
 def of_clock(state: ClockState) -> Iterator[str]:

@@ -11,8 +11,9 @@ from typing import Optional
 from bpfrec_host.formats.answers import Report
 from bpfrec_host.formats.ch11 import End
 from bpfrec_host.formats.clock_state import ClockState
-from bpfrec_host.live.ports import Counts, Marked, Setup
-from bpfrec_host.live.status.channel import Channel, since
+from bpfrec_host.live.ports import Counts, Marked, Sent, Setup
+from bpfrec_host.live.status.channel import Channel
+from bpfrec_host.live.status.ground import Ground
 from bpfrec_host.live.status.growth import Growth, Kept, Told
 from bpfrec_host.live.status.view import (
     HISTORY_SECONDS,
@@ -25,6 +26,7 @@ from bpfrec_host.live.status.view import (
     RecordingView,
     SyncView,
     View,
+    since,
 )
 
 # So many recordings that have ended are kept, and so many marks; other recordings are counted.
@@ -68,6 +70,8 @@ class Model:
         # The last marks, each with the moment when it was noted.
         self.marks: deque[tuple[float, MarkView]] = deque(maxlen=MOST_MARKS)
         self.clock = ClockView(ClockState())
+        # The stations that are sent to, by their addresses.
+        self.ground: dict[str, Ground] = {}
         # What was said last of interfaces, and when.
         self.links: dict[Optional[str], tuple[Optional[str], float]] = {}
 
@@ -103,6 +107,10 @@ class Model:
         for channel in self.channels.values():
             if channel.interface == interface:
                 channel.link(away, now)
+
+    def published(self, address: str, sent: Optional[Sent], now: float) -> None:
+        """So much was sent to a station by now; None where its publisher has died."""
+        self.ground.setdefault(address, Ground(address)).take(sent, now)
 
     def filter_changed(self, channel: int, version: int, name: str) -> None:
         """A channel's filter is this version in the recording that goes on, of this name."""
@@ -211,6 +219,7 @@ class Model:
             is_ending=self.is_ending,
             unsigned=self.unsigned,
             unhashed=self.unhashed,
+            ground=tuple(it.view(now) for it in self.ground.values()),
         )
 
     def channel_views(self, now: float) -> tuple[ChannelView, ...]:

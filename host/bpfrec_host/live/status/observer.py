@@ -11,7 +11,7 @@ from typing import Optional
 from bpfrec_host.formats.ch11.follow import MOST_PACKETS
 from bpfrec_host.formats.clock_state import ClockState
 from bpfrec_host.formats.limits import TOP_KEYS
-from bpfrec_host.live.ports import Counts, Marked, Observer, Setup
+from bpfrec_host.live.ports import Counts, Marked, Observer, Sent, Setup
 from bpfrec_host.live.status.alarm_changes import AlarmChange, AlarmChanges
 from bpfrec_host.live.status.alarms import alarms_of
 from bpfrec_host.live.status.endpoint import Endpoint
@@ -74,6 +74,10 @@ class Status(Observer):
     def linked(self, interface: str, away: Optional[str], now: float) -> None:
         """An interface brings no frames from now on, for this reason, or by None it does again."""
         self.model.linked(interface, away, now)
+
+    def published(self, address: str, sent: Optional[Sent], now: float) -> None:
+        """So much was sent to a station by now; None where its publisher has died."""
+        self.model.published(address, sent, now)
 
     def filter_changed(self, channel: int, version: int, name: str) -> None:
         """A line changed a filter of the recording that goes on, to one of this name."""

@@ -76,6 +76,8 @@ def whole(view: View) -> Iterator[str]:
     sync = "" if not view.sync.interval else f"  synced {ago(view.sync.age)}"
     audits = f"  audits {view.audits.yes} yes, {view.audits.no} no" if view.recordings else ""
     yield f"{disk}{full}{sync}{audits}"
+    for station in view.ground:
+        yield f"{station.address}  {plural(station.datagrams, 'datagram')}, {station.lost:,} lost, {station.late:,} late"
 
 
 def ago(age: Optional[float]) -> str:

@@ -159,6 +159,18 @@ class ClockView(NamedTuple):
         return self.state.fault(self.most)
 
 
+class GroundView(NamedTuple):
+    """A ground station: its address, the datagrams that were sent to it in this run, those of them that were lost here,
+    late packets, whether its publisher runs, and how long ago a datagram was lost."""
+
+    address: str
+    datagrams: int
+    lost: int
+    late: int
+    is_sent_to: bool
+    lost_age: Optional[float] = None
+
+
 class View(NamedTuple):
     """A run at the moment `now`. `state` is `waiting` where no recording goes on, `recording`, or `ended`; `uptime` is
     how long it has gone on, and `recordings` are the last that ended. `marks` are the last of the run; `host` is the
@@ -181,6 +193,12 @@ class View(NamedTuple):
     is_ending: bool = False
     unsigned: str = ""
     unhashed: str = ""
+    ground: tuple[GroundView, ...] = ()
+
+
+def since(moment: Optional[float], now: float) -> Optional[float]:
+    """How long ago a moment was; none is in the future."""
+    return None if moment is None else max(now - moment, 0)
 
 
 def lost(counts: Counts) -> int:

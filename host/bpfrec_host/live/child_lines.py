@@ -1,7 +1,7 @@
-"""A pipe by which lines come from the capture: its counts, where somebody observes the run, and what it prints, where a
-table is shown on the terminal of standard error.
+"""A pipe by which lines come from a child, the capture or a publisher: its counts, where somebody observes the run, and
+what it prints, where a table is shown on the terminal of standard error.
 
-The capture waits for nobody: a line that a pipe has no room for is left out.
+A child waits for nobody: a line that a pipe has no room for is left out.
 """
 
 from __future__ import annotations
@@ -14,8 +14,8 @@ from bpfrec_host.live.loop import Loop
 READ_LEN = 1 << 16
 
 
-class CaptureLines:
-    """A pipe from a capture, whose writing end is given to it. `take` takes each line."""
+class ChildLines:
+    """A pipe from a child, whose writing end is given to it. `take` takes each line."""
 
     def __init__(self, loop: Loop, take: Callable[[str], None]) -> None:
         self.loop, self.take = loop, take
@@ -24,7 +24,7 @@ class CaptureLines:
         self.rest = b""
 
     def follow(self) -> None:
-        """Takes lines from now on, since the capture has the other end."""
+        """Takes lines from now on, since the child has the other end."""
         os.close(self.writer)
         self.loop.on_read(self.reader, self.take_all)
 
@@ -47,7 +47,7 @@ class CaptureLines:
             return None
 
     def end(self) -> None:
-        """The capture has ended: takes what is left."""
+        """The child has ended: takes what is left."""
         self.take_all()
         self.loop.on_read(self.reader, None)
         os.close(self.reader)
