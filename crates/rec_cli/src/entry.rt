@@ -1,7 +1,8 @@
 //! The program as a function: it reads the words, does what they ask for, and gives a status.
 
-ghost use Rattle.std.specs.Prelude.{◌≡◌, ◌<◌, IfSome, length};
+ghost use Rattle.std.specs.Prelude.{◌≡◌, ◌<◌, IfSome, OnOk, Ok, length, map, string_bytes};
 ghost use Rattle.cli_filters.specs.Lines.{AnswersLines};
+ghost use Rattle.rec_cli.specs.Answered.{AsksForStream, AnswersCommand, AnswersWords};
 
 use cli_chapter11::{stream_chapter11, write_chapter11};
 use cli_filters::{answer_lines, assemble_file, disassemble_file, run_file, verify_file};
@@ -36,6 +37,8 @@ where
     R::Dir: Send,
     ensures lines { length words.now ≡ 0 → result ≡ 0 → IfSome (I.remaining input) (λ bytes.
         AnswersLines bytes (O.contents output.old) (O.contents output.new)) }
+    ensures asked { 0 < length words.now → result ≡ 0 → AnswersWords (map string_bytes words.now)
+        (I.remaining input) (O.contents output.old) (O.contents output.new) (Ok (tt {0})) }
 {
     if let Some(setup) = stream_setup(words) {
         return stream(rt, setup, input, output, errors);
@@ -55,7 +58,8 @@ where
 
 /// SETUP, where the words are `chapter11 --stream SETUP`, which `clap` doesn't read. SETUP doesn't begin as an option.
 fn stream_setup(words: &[String]) -> Option<&str>
-    ensures { IfSome result (λ _. length words.now ≡ 3) }
+    ensures three { IfSome result (λ _. length words.now ≡ 3) }
+    ensures asked { IfSome result (λ _. AsksForStream (map string_bytes words.now)) }
 {
     let [command, option, setup] = words else {
         return None;
@@ -100,6 +104,8 @@ fn obey<
 where
     R::File: Send + LockFile + PlacedRead,
     R::Dir: Send,
+    ensures { OnOk result (AnswersWords (map string_bytes words.entry.now) (I.remaining input)
+        (O.contents output.old) (O.contents output.new) result) }
 {
     match words_of(rt.alloc(), words) {
         Ok(Words::Record { settings, out }) => {
@@ -121,6 +127,8 @@ fn answer<'a, R: AllocGlobal + Files, I: Read, O: Write>(
 ) -> Result<(), CommandEnding<'a>>
 where
     R::File: LockFile + PlacedRead,
+    ensures { AnswersCommand command.entry (I.remaining input.old) (O.contents output.old)
+        (O.contents output.new) result }
 {
     match command {
         Words::Asm { file } => assemble_file(rt, file, input, output),
