@@ -5,9 +5,9 @@ use Rattle.std.specs.Io.KnownBytes.{Appends}
 use Rattle.ch11_packet.specs.Header.{IsHeader}
 use Rattle.ch11_packet.specs.PacketLen.{written_len}
 use Rattle.ch11_packet.specs.Profiles.Profile.{WithSum}
+use Rattle.ch11_index.specs.declared.index.IndexPacket.{IndexPacket}
 use Rattle.ch11_index.specs.declared.index.IndexPacket.TheVariants.{Node, Root}
-use Rattle.ch11_index.specs.FileIndex.{IndexState, after_packet, after_node, after_root, last_entry, due}
-use Rattle.ch11_index.specs.IndexBytes.{node_bytes, root_bytes}
+use Rattle.ch11_index.specs.FileIndex.{IndexState, after_packet, after_node, after_root, after_index_packet, index_body, last_entry, due}
 use Rattle.ch11_file.specs.declared.kind.BlockKind.{BlockKind}
 use Rattle.ch11_file.specs.declared.kind.BlockKind.TheVariants.{Setup, Index}
 use Rattle.ch11_file.specs.declared.limits.TheConstants.{MAX_SETUP_LEN}
@@ -171,81 +171,59 @@ put_part facts before held now old merge next kind channel counter body content 
 
 -- ---- packets of the index
 
-node_content : (setup : FileSetup) (s : SentState) (kind : BlockKind) (channel : ℕ) (body : List ℕ) → kind ≡ Index → channel ≡ 0
-    → body ≡ node_bytes s.index.packets → IsContent setup (NodeBlock s.index.packets) kind channel body
-node_content setup s kind channel body k c b = record { kind_is = k; channel_is = c; body_is = b }
+-- what a packet of the index holds that goes out now
+abbrev index_block : IndexState → IndexPacket → BlockContent
+index_block s Node = NodeBlock s.packets
+index_block s Root = RootBlock s.nodes (last_entry s)
 
-pub node_whole : (facts : FileFacts) (before held now : Option (List ℕ)) (old mid new : SentState) (merge : MergeState) (kind : BlockKind)
-    (channel counter : ℕ) (body : List ℕ) (len : ℕ) → HasSent facts before held old merge → IndexIsDue Node old.index merge
-    → kind ≡ Index → channel ≡ 0 → counter ≡ old.index.greatest → body ≡ node_bytes old.index.packets
+index_content : (setup : FileSetup) (s : IndexState) (packet : IndexPacket) (kind : BlockKind) (channel : ℕ) (body : List ℕ) → kind ≡ Index
+    → channel ≡ 0 → body ≡ index_body s packet → IsContent setup (index_block s packet) kind channel body
+index_content setup s Node kind channel body k c b = record { kind_is = k; channel_is = c; body_is = b }
+index_content setup s Root kind channel body k c b = record { kind_is = k; channel_is = c; body_is = b }
+
+index_goes : (facts : FileFacts) (s : IndexState) (merge : MergeState) (packet : IndexPacket) (channel sequence counter len : ℕ)
+    → IndexIsDue packet s merge → counter ≡ s.greatest
+    → len ≡ block_len (block_of channel sequence counter (index_block s packet))
+    → BlockGoesNext facts (file_state s merge) (index_block s packet) (block_of channel sequence counter (index_block s packet))
+    (file_state (after_index_packet s packet len) merge)
+index_goes facts s merge Node channel sequence counter len due_is g l =
+    record { is_due = due_is; entries_are = refl; counter_is = g; new_is = ap (λ n. file_state (after_node s n) merge) l }
+index_goes facts s merge Root channel sequence counter len due_is g l =
+    record { is_due = due_is; nodes_are = refl; last_is = refl; counter_is = g; new_is = ap (λ n. file_state (after_root s n) merge) l }
+
+place_behind : (s : IndexState) (packet : IndexPacket) (len : ℕ) → (after_index_packet s packet len).place ≡ s.place + len
+place_behind s Node len = refl
+place_behind s Root len = refl
+
+pub index_whole : (facts : FileFacts) (before held now : Option (List ℕ)) (old mid new : SentState) (merge : MergeState) (packet : IndexPacket)
+    (kind : BlockKind) (channel counter : ℕ) (body : List ℕ) (len : ℕ) → HasSent facts before held old merge
+    → IndexIsDue packet old.index merge → kind ≡ Index → channel ≡ 0 → counter ≡ old.index.greatest → body ≡ index_body old.index packet
     → WritesWhole old kind channel counter body held now len mid
-    → new ≡ sent_state mid.numbers (after_node mid.index len) (counts_behind mid.counts Index len)
+    → new ≡ sent_state mid.numbers (after_index_packet mid.index packet len) (counts_behind mid.counts Index len)
     → HasSent facts before now new merge
-node_whole facts before held now old mid new merge kind channel counter body len sent due_is k c g b wrote noted =
-    let content = NodeBlock old.index.packets in
-    let is = node_content facts.setup old kind channel body k c b in
+index_whole facts before held now old mid new merge packet kind channel counter body len sent due_is k c g b wrote noted =
+    let content = index_block old.index packet in
+    let is = index_content facts.setup old.index packet kind channel body k c b in
     let of = is_of_block old facts.setup content kind channel counter body is wrote.header in
     let index_was : mid.index ≡ old.index = ap (λ (s : SentState). s.index) wrote.new_is in
-    let index_is : new.index ≡ after_node old.index len = ap (λ (s : SentState). s.index) noted ∙ ap (λ i. after_node i len) index_was in
+    let index_is : new.index ≡ after_index_packet old.index packet len =
+    ap (λ (s : SentState). s.index) noted ∙ ap (λ i. after_index_packet i packet len) index_was in
     whole_out facts before held now old mid new merge merge kind channel counter body len content sent is wrote (no_setup kind _ k)
     (record {
       numbers = ap (λ (s : SentState). s.numbers) noted;
       counts = ap (λ (s : SentState). s.counts) noted ∙ ap (λ k2. counts_behind mid.counts k2 len) (sym k);
-      place_is = ap (λ (i : IndexState). i.place) index_is;
+      place_is = ap (λ (i : IndexState). i.place) index_is ∙ place_behind old.index packet len;
     })
-    (record {
-      is_due = due_is;
-      entries_are = refl;
-      counter_is = g;
-      new_is = ap (λ i. file_state i merge) (index_is ∙ ap (after_node old.index) (wrote.len_is ∙ of.len));
-    })
+    (subst (λ i. BlockGoesNext facts (file_state old.index merge) content (block_sent old facts.setup content counter) (file_state i merge)) (sym index_is)
+    (index_goes facts old.index merge packet _ _ counter len due_is g (wrote.len_is ∙ of.len)))
 
-pub node_part : (facts : FileFacts) (before held now : Option (List ℕ)) (old : SentState) (merge : MergeState) (kind : BlockKind)
-    (channel counter : ℕ) (body : List ℕ) → HasSent facts before held old merge → IndexIsDue Node old.index merge
-    → kind ≡ Index → channel ≡ 0 → counter ≡ old.index.greatest → body ≡ node_bytes old.index.packets
+pub index_part : (facts : FileFacts) (before held now : Option (List ℕ)) (old : SentState) (merge : MergeState) (packet : IndexPacket)
+    (kind : BlockKind) (channel counter : ℕ) (body : List ℕ) → HasSent facts before held old merge → IndexIsDue packet old.index merge
+    → kind ≡ Index → channel ≡ 0 → counter ≡ old.index.greatest → body ≡ index_body old.index packet
     → WritesPart old kind channel counter body held now → HoldsFront facts before now
-node_part facts before held now old merge kind channel counter body sent due_is k c g b wrote =
-    let content = NodeBlock old.index.packets in
-    part_out facts before held now old (file_state (after_node old.index (block_len (block_sent old facts.setup content counter))) merge) merge kind channel
-    counter body content sent (node_content facts.setup old kind channel body k c b) wrote (no_setup kind _ k)
-    (record { is_due = due_is; entries_are = refl; counter_is = g; new_is = refl })
-
-root_content : (setup : FileSetup) (s : SentState) (kind : BlockKind) (channel : ℕ) (body : List ℕ) → kind ≡ Index → channel ≡ 0
-    → body ≡ root_bytes s.index.nodes (last_entry s.index) → IsContent setup (RootBlock s.index.nodes (last_entry s.index)) kind channel body
-root_content setup s kind channel body k c b = record { kind_is = k; channel_is = c; body_is = b }
-
-pub root_whole : (facts : FileFacts) (before held now : Option (List ℕ)) (old mid new : SentState) (merge : MergeState) (kind : BlockKind)
-    (channel counter : ℕ) (body : List ℕ) (len : ℕ) → HasSent facts before held old merge → IndexIsDue Root old.index merge
-    → kind ≡ Index → channel ≡ 0 → counter ≡ old.index.greatest → body ≡ root_bytes old.index.nodes (last_entry old.index)
-    → WritesWhole old kind channel counter body held now len mid
-    → new ≡ sent_state mid.numbers (after_root mid.index len) (counts_behind mid.counts Index len)
-    → HasSent facts before now new merge
-root_whole facts before held now old mid new merge kind channel counter body len sent due_is k c g b wrote noted =
-    let content = RootBlock old.index.nodes (last_entry old.index) in
-    let is = root_content facts.setup old kind channel body k c b in
-    let of = is_of_block old facts.setup content kind channel counter body is wrote.header in
-    let index_was : mid.index ≡ old.index = ap (λ (s : SentState). s.index) wrote.new_is in
-    let index_is : new.index ≡ after_root old.index len = ap (λ (s : SentState). s.index) noted ∙ ap (λ i. after_root i len) index_was in
-    whole_out facts before held now old mid new merge merge kind channel counter body len content sent is wrote (no_setup kind _ k)
-    (record {
-      numbers = ap (λ (s : SentState). s.numbers) noted;
-      counts = ap (λ (s : SentState). s.counts) noted ∙ ap (λ k2. counts_behind mid.counts k2 len) (sym k);
-      place_is = ap (λ (i : IndexState). i.place) index_is;
-    })
-    (record {
-      is_due = due_is;
-      nodes_are = refl;
-      last_is = refl;
-      counter_is = g;
-      new_is = ap (λ i. file_state i merge) (index_is ∙ ap (after_root old.index) (wrote.len_is ∙ of.len));
-    })
-
-pub root_part : (facts : FileFacts) (before held now : Option (List ℕ)) (old : SentState) (merge : MergeState) (kind : BlockKind)
-    (channel counter : ℕ) (body : List ℕ) → HasSent facts before held old merge → IndexIsDue Root old.index merge
-    → kind ≡ Index → channel ≡ 0 → counter ≡ old.index.greatest → body ≡ root_bytes old.index.nodes (last_entry old.index)
-    → WritesPart old kind channel counter body held now → HoldsFront facts before now
-root_part facts before held now old merge kind channel counter body sent due_is k c g b wrote =
-    let content = RootBlock old.index.nodes (last_entry old.index) in
-    part_out facts before held now old (file_state (after_root old.index (block_len (block_sent old facts.setup content counter))) merge) merge kind channel
-    counter body content sent (root_content facts.setup old kind channel body k c b) wrote (no_setup kind _ k)
-    (record { is_due = due_is; nodes_are = refl; last_is = refl; counter_is = g; new_is = refl })
+index_part facts before held now old merge packet kind channel counter body sent due_is k c g b wrote =
+    let content = index_block old.index packet in
+    part_out facts before held now old
+    (file_state (after_index_packet old.index packet (block_len (block_sent old facts.setup content counter))) merge) merge kind channel
+    counter body content sent (index_content facts.setup old.index packet kind channel body k c b) wrote (no_setup kind _ k)
+    (index_goes facts old.index merge packet _ _ counter _ due_is g refl)

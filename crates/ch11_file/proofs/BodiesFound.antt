@@ -1,6 +1,6 @@
 -- The bodies of a whole file's packets are read back: its numbers have their widths, where the file isn't too long.
 use Rattle.std.proofs.Common.{ℕ, ◌+◌, ◌≡◌, ◌<◌, List, [], ◌∷◌, ◌++◌, length, Option, None, Some, refl, sym, subst, ap, arith}
-use Rattle.std.specs.Prelude.{◌^◌, IfSome}
+use Rattle.std.specs.Prelude.{◌^◌, IfSome, unwrap_or}
 use Rattle.std.specs.Int.{w32, to_le_bytes}
 use Rattle.std.specs.List.{AllByRecursion, flat_map}
 use Rattle.std.proofs.lemmas.List.{length-append}
@@ -11,7 +11,7 @@ use Rattle.ch11_index.specs.declared.entry.NodeEntry.{NodeEntry}
 use Rattle.ch11_index.specs.declared.entry.RootEntry.{RootEntry}
 use Rattle.ch11_index.specs.IndexBytes.{node_entry_bytes, root_entry_bytes, node_bytes, root_bytes}
 use Rattle.ch11_index.specs.IndexBodies.{IsNodeEntry, IsRootEntry}
-use Rattle.ch11_index.specs.FileIndex.{IndexState, after_packet, after_node, after_root, before_or, here_of, empty_index}
+use Rattle.ch11_index.specs.FileIndex.{IndexState, after_packet, after_node, after_root, here_of, empty_index}
 use Rattle.ch11_index.proofs.BodiesRead.{node_read, root_read, all_with}
 use Rattle.ch11_clock.proofs.TimesRead.{time_read}
 use Rattle.ch11_file.specs.FileBlocks.{BlockContent, FileBlock, block_body, block_header, block_len, block_packet, file_bytes, named_of}
@@ -35,7 +35,7 @@ nothing_named most = record { packets = tt; nodes = tt; root = tt; greatest = om
 here_fits : (s : IndexState) → IndexFits s → s.place < 2 ^ 64 → IsRootEntry (here_of s)
 here_fits s fit place = record { counter_in = let greatest = fit.greatest in omega (arith, greatest); at_in = place }
 
-last_fits : (root : Option RootEntry) (here : RootEntry) → IfSome root IsRootEntry → IsRootEntry here → IsRootEntry (before_or root here)
+last_fits : (root : Option RootEntry) (here : RootEntry) → IfSome root IsRootEntry → IsRootEntry here → IsRootEntry (unwrap_or root here)
 last_fits None here fit is = is
 last_fits (Some before) here fit is = fit
 

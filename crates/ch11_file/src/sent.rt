@@ -38,8 +38,8 @@ impl Sent {
     ghost use Rattle.ch11_packet.specs.PacketLen.{written_len};
     ghost use Rattle.ch11_packet.specs.Profiles.Profile.{WithSum};
     ghost use Rattle.ch11_index.specs.declared.index.TheConstants.{MOST_NAMED};
-    ghost use Rattle.ch11_index.specs.declared.index.IndexPacket.TheVariants.{Node, Root};
-    ghost use Rattle.ch11_index.specs.FileIndex.{due, due_at_end, after_packet, after_node, after_root};
+    ghost use Rattle.ch11_index.specs.declared.index.IndexPacket.TheVariants.{Node};
+    ghost use Rattle.ch11_index.specs.FileIndex.{due, due_at_end, after_packet, after_index_packet};
     ghost use Rattle.ch11_file.specs.declared.limits.TheConstants.{MAX_SETUP_LEN};
     ghost use Rattle.ch11_file.specs.declared.kind.BlockKind.TheVariants.{Frames, Setup as SetupKind, Index as IndexKind};
     ghost use Rattle.ch11_file.specs.FileBlocks.{BlockContent};
@@ -127,12 +127,12 @@ impl Sent {
         ensures none_due { OnOk result (index_next is_last self.new.index ≡ None) }
         ensures grows { OnOk result (IndexGrows self.old.index self.new.index) }
     {
-        self.put_node_if_due(alloc, out, is_last)?;
-        self.put_root_if_due(alloc, out, is_last)
+        self.put_if_due(alloc, out, is_last)?;
+        self.put_if_due(alloc, out, is_last)
     }
 
-    /// Sends a node, if one is due.
-    fn put_node_if_due<W: Write>(
+    /// Sends the packet of the index that is due, if one is. Behind a root none is.
+    fn put_if_due<W: Write>(
         &mut self,
         alloc: Global,
         out: &mut W,
@@ -144,33 +144,13 @@ impl Sent {
             → MatchResult result (λ _. HasSent facts before (W.contents out.new) self.new merge)
             (λ _. HoldsFront facts before (W.contents out.new)) }
         ensures no_node { OnOk result (index_next is_last self.new.index ≢ Some Node) }
+        ensures none_due { index_next is_last self.old.index ≢ Some Node
+            → OnOk result (index_next is_last self.new.index ≡ None) }
         ensures grows { OnOk result (IndexGrows self.old.index self.new.index) }
     {
         match self.index_next(is_last) {
-            Some(IndexPacket::Node) => self.put_node(alloc, out),
-            _ => Ok(()),
-        }
-    }
-
-    /// Sends a root, if one is due, where no node is.
-    fn put_root_if_due<W: Write>(
-        &mut self,
-        alloc: Global,
-        out: &mut W,
-        is_last: bool,
-    ) -> Result<(), FileFault>
-        requires no_node { index_next is_last self.old.index ≢ Some Node }
-        ensures sent { (facts : FileFacts) (before : Option (List ℕ)) (merge : MergeState)
-            → HasSent facts before (W.contents out.old) self.old merge
-            → (IsTrue is_last → IsMerged merge)
-            → MatchResult result (λ _. HasSent facts before (W.contents out.new) self.new merge)
-            (λ _. HoldsFront facts before (W.contents out.new)) }
-        ensures none_due { OnOk result (index_next is_last self.new.index ≡ None) }
-        ensures grows { OnOk result (IndexGrows self.old.index self.new.index) }
-    {
-        match self.index_next(is_last) {
-            Some(IndexPacket::Root) => self.put_root(alloc, out),
-            _ => Ok(()),
+            Some(packet) => self.put_index_packet(alloc, out, packet),
+            None => Ok(()),
         }
     }
 
@@ -187,39 +167,27 @@ impl Sent {
         }
     }
 
-    /// Sends a node of all packets that none names yet.
-    fn put_node<W: Write>(&mut self, alloc: Global, out: &mut W) -> Result<(), FileFault>
-        requires { due_at_end self.old.index ≡ Some Node }
+    /// Sends this packet of the index, which names all that none names yet.
+    fn put_index_packet<W: Write>(
+        &mut self,
+        alloc: Global,
+        out: &mut W,
+        packet: IndexPacket,
+    ) -> Result<(), FileFault>
+        requires { due_at_end self.old.index ≡ Some packet }
         ensures sent { (facts : FileFacts) (before : Option (List ℕ)) (merge : MergeState)
             → HasSent facts before (W.contents out.old) self.old merge
-            → IndexIsDue Node self.old.index merge
+            → IndexIsDue packet self.old.index merge
             → MatchResult result (λ _. HasSent facts before (W.contents out.new) self.new merge)
             (λ _. HoldsFront facts before (W.contents out.new)) }
-        ensures index { OnOk result ((len : ℕ) × (self.new.index ≡ after_node self.old.index len)) }
+        ensures index { OnOk result ((len : ℕ)
+            × (self.new.index ≡ after_index_packet self.old.index packet len)) }
     {
         let mut body = Vec::new(alloc);
-        self.index.add_node(&mut body)?;
+        self.index.add_body(packet, &mut body)?;
         let head = BlockHead::of_index(self.greatest());
         let len = self.write(out, head, &body)?;
-        self.close_node(len);
-        Ok(())
-    }
-
-    /// Sends a root of all nodes that none names yet.
-    fn put_root<W: Write>(&mut self, alloc: Global, out: &mut W) -> Result<(), FileFault>
-        requires { due_at_end self.old.index ≡ Some Root }
-        ensures sent { (facts : FileFacts) (before : Option (List ℕ)) (merge : MergeState)
-            → HasSent facts before (W.contents out.old) self.old merge
-            → IndexIsDue Root self.old.index merge
-            → MatchResult result (λ _. HasSent facts before (W.contents out.new) self.new merge)
-            (λ _. HoldsFront facts before (W.contents out.new)) }
-        ensures index { OnOk result ((len : ℕ) × (self.new.index ≡ after_root self.old.index len)) }
-    {
-        let mut body = Vec::new(alloc);
-        self.index.add_root(&mut body)?;
-        let head = BlockHead::of_index(self.greatest());
-        let len = self.write(out, head, &body)?;
-        self.close_root(len);
+        self.close(packet, len);
         Ok(())
     }
 
@@ -268,27 +236,16 @@ impl Sent {
         });
     }
 
-    /// Notes a node that went out.
-    fn close_node(&mut self, len: u32)
-        requires is_due { due_at_end self.old.index ≡ Some Node }
+    /// Notes a packet of the index that went out.
+    fn close(&mut self, packet: IndexPacket, len: u32)
+        requires is_due { due_at_end self.old.index ≡ Some packet }
         requires room { self.old.index.place + len < 2 ^ 64 }
         requires some { 0 < len }
-        ensures { self.new ≡ sent_state self.old.numbers (after_node self.old.index len)
+        ensures { self.new ≡ sent_state self.old.numbers
+            (after_index_packet self.old.index packet len)
             (counts_behind self.old.counts IndexKind len) }
     {
         self.counts = self.counts.with(BlockKind::Index, len);
-        self.index.close_node(len);
-    }
-
-    /// Notes a root that went out.
-    fn close_root(&mut self, len: u32)
-        requires is_due { due_at_end self.old.index ≡ Some Root }
-        requires room { self.old.index.place + len < 2 ^ 64 }
-        requires some { 0 < len }
-        ensures { self.new ≡ sent_state self.old.numbers (after_root self.old.index len)
-            (counts_behind self.old.counts IndexKind len) }
-    {
-        self.counts = self.counts.with(BlockKind::Index, len);
-        self.index.close_root(len);
+        self.index.close(packet, len);
     }
 }

@@ -1,10 +1,11 @@
 -- Where the packets of an index stand in a file, and what they name.
-use Rattle.std.specs.Prelude.{ℕ, ◌+◌, ◌≡◌, ◌⊎◌, nat_eq, max, if◌then◌else◌, List, [], ◌∷◌, ◌++◌, length, Option, None, Some}
+use Rattle.std.specs.Prelude.{ℕ, ◌+◌, ◌≡◌, ◌⊎◌, nat_eq, max, if◌then◌else◌, List, [], ◌∷◌, ◌++◌, length, Option, None, Some, unwrap_or}
 use Rattle.ch11_index.specs.declared.entry.NodeEntry.{NodeEntry}
 use Rattle.ch11_index.specs.declared.entry.RootEntry.{RootEntry}
 use Rattle.ch11_index.specs.declared.index.FilePacket.{FilePacket}
 use Rattle.ch11_index.specs.declared.index.IndexPacket.{IndexPacket}
 use Rattle.ch11_index.specs.declared.index.IndexPacket.TheVariants.{Node, Root}
+use Rattle.ch11_index.specs.IndexBytes.{node_bytes, root_bytes}
 
 -- ---- what went out
 
@@ -51,12 +52,8 @@ abbrev pub here_of : IndexState → RootEntry
 here_of s = root_entry s.greatest s.place
 
 -- the last entry of a root that goes out now: the root before, or itself where it is the first
-abbrev pub before_or : Option RootEntry → (here : RootEntry) → RootEntry
-before_or None here = here
-before_or (Some before) here = before
-
 abbrev pub last_entry : IndexState → RootEntry
-last_entry s = before_or s.root (here_of s)
+last_entry s = unwrap_or s.root (here_of s)
 
 -- ---- steps
 
@@ -74,6 +71,16 @@ after_node s len =
 -- a root of all that is left went out, in a packet of this length
 abbrev pub after_root : IndexState → (len : ℕ) → IndexState
 after_root s len = index_state s.most s.packets [] (Some (here_of s)) s.greatest (s.place + len)
+
+-- this packet of the index went out
+abbrev pub after_index_packet : IndexState → IndexPacket → (len : ℕ) → IndexState
+after_index_packet s Node len = after_node s len
+after_index_packet s Root len = after_root s len
+
+-- the body of this packet of the index, where it goes out now
+abbrev pub index_body : IndexState → IndexPacket → List ℕ
+index_body s Node = node_bytes s.packets
+index_body s Root = root_bytes s.nodes (last_entry s)
 
 -- ---- when they go out
 

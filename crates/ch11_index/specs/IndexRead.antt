@@ -1,8 +1,8 @@
 -- What a reader finds of a file's index.
-use Rattle.std.specs.Prelude.{ℕ, ◌+◌, ◌≡◌, ◌≤◌, max, List, [], ◌∷◌, ◌++◌, length, Option, Some}
+use Rattle.std.specs.Prelude.{ℕ, ◌+◌, ◌≡◌, ◌≤◌, max, List, [], ◌∷◌, ◌++◌, length, Option, Some, unwrap_or}
 use Rattle.ch11_index.specs.declared.entry.NodeEntry.{NodeEntry}
 use Rattle.ch11_index.specs.declared.entry.RootEntry.{RootEntry}
-use Rattle.ch11_index.specs.FileIndex.{FileItem, packet_entry, root_entry, before_or}
+use Rattle.ch11_index.specs.FileIndex.{FileItem, packet_entry, root_entry}
 use Rattle.ch11_index.specs.FileIndex.FileItem.{OfPacket, OfNode, OfRoot}
 
 -- ---- what is named
@@ -56,7 +56,7 @@ AreChained before greatest place (OfPacket packet ∷ file) =
 AreChained before greatest place (OfNode len entries ∷ file) =
     AreChained before greatest (place + len) file
 AreChained before greatest place (OfRoot len nodes last ∷ file) =
-    (last ≡ before_or before (root_entry greatest place))
+    (last ≡ unwrap_or before (root_entry greatest place))
     × AreChained (Some (root_entry greatest place)) greatest (place + len) file
 
 -- ---- the limit

@@ -59,10 +59,8 @@ impl Model for Index {
 
 impl Index {
     ghost use Rattle.std.specs.Prelude.{◌+◌, ◌<◌, ◌≤◌, ◌^◌, ◌↔◌, ◌++◌, None, Some, IfOk, IfSome, OnOk, IsTrue, length};
-    ghost use Rattle.ch11_index.specs.declared.index.IndexPacket.TheVariants.{Node, Root};
-    ghost use Rattle.ch11_index.specs.IndexBytes.{node_bytes, root_bytes};
-    ghost use Rattle.ch11_index.specs.FileIndex.{empty_index, due, due_at_end, after_packet, after_node};
-    ghost use Rattle.ch11_index.specs.FileIndex.{after_root, last_entry, here_of};
+    ghost use Rattle.ch11_index.specs.FileIndex.{empty_index, due, due_at_end, after_packet, after_index_packet};
+    ghost use Rattle.ch11_index.specs.FileIndex.{index_body, here_of, last_entry};
 
     /// The index of no packets, whose nodes and roots name at most this many. It takes room for one node
     /// and one root.
@@ -147,49 +145,44 @@ impl Index {
         self.place += u64::from(packet.len);
     }
 
-    /// Adds the body of the node that would go out now to what stands in a buffer.
-    pub fn add_node(&self, body: &mut Vec<u8>) -> Result<(), AllocError>
+    /// Adds the body of this packet of the index, as it would go out now, to what stands in a buffer.
+    pub fn add_body(&self, packet: IndexPacket, body: &mut Vec<u8>) -> Result<(), AllocError>
         ensures body { OnOk result (body.new.items
-            ≡ body.old.items ++ node_bytes self.now.packets) }
-        ensures few { length self.now.packets ≤ MOST_NAMED }
+            ≡ body.old.items ++ index_body self.now packet) }
+        ensures few_packets { length self.now.packets ≤ MOST_NAMED }
+        ensures few_nodes { length self.now.nodes ≤ MOST_NAMED }
     {
-        add_node(self.packets.as_slice(), body)
+        match packet {
+            IndexPacket::Node => add_node(self.packets.as_slice(), body),
+            IndexPacket::Root => add_root(self.nodes.as_slice(), self.last(), body),
+        }
     }
 
-    /// Adds the body of the root that would go out now to what stands in a buffer.
-    pub fn add_root(&self, body: &mut Vec<u8>) -> Result<(), AllocError>
-        ensures body { OnOk result (body.new.items
-            ≡ body.old.items ++ root_bytes self.now.nodes (last_entry self.now)) }
-        ensures few { length self.now.nodes ≤ MOST_NAMED }
-    {
-        let last = match self.root {
-            Some(before) => before,
-            None => self.here(),
-        };
-        add_root(self.nodes.as_slice(), last, body)
-    }
-
-    /// The node went out, in a packet of this length whose counter is the greatest.
-    pub fn close_node(&mut self, len: u32)
-        requires is_due { due_at_end self.old ≡ Some IndexPacket.Node }
+    /// This packet of the index went out, with this length and the greatest counter.
+    pub fn close(&mut self, packet: IndexPacket, len: u32)
+        requires is_due { due_at_end self.old ≡ Some packet }
         requires room { self.old.place + len < 2 ^ 64 }
-        ensures { self.new ≡ after_node self.old len }
+        ensures { self.new ≡ after_index_packet self.old packet len }
     {
         let here = self.here();
-        self.packets.clear();
-        self.nodes.push_reserved(here);
+        match packet {
+            IndexPacket::Node => {
+                self.packets.clear();
+                self.nodes.push_reserved(here);
+            }
+            IndexPacket::Root => {
+                self.root = Some(here);
+                self.nodes.clear();
+            }
+        }
         self.place += u64::from(len);
     }
 
-    /// The root went out, in a packet of this length whose counter is the greatest.
-    pub fn close_root(&mut self, len: u32)
-        requires is_due { due_at_end self.old ≡ Some IndexPacket.Root }
-        requires room { self.old.place + len < 2 ^ 64 }
-        ensures { self.new ≡ after_root self.old len }
+    /// The last entry of a root that goes out now: the root before, or itself.
+    fn last(&self) -> RootEntry
+        ensures { result ≡ last_entry self.now }
     {
-        self.root = Some(self.here());
-        self.nodes.clear();
-        self.place += u64::from(len);
+        self.root.unwrap_or(self.here())
     }
 
     /// What a root says of a packet of the index that stands next.

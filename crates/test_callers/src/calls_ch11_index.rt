@@ -3,7 +3,7 @@
 ghost use Rattle.std.specs.Prelude.{◌≡◌, ◌+◌, ◌<◌, ◌^◌, None};
 ghost use Rattle.ch11_index.specs.FileIndex.{due};
 
-use ch11_index::{FilePacket, Index, IndexPacket};
+use ch11_index::{FilePacket, Index};
 use std::alloc::{AllocError, Global};
 
 /// Names a packet that went out, and gives the body of the packet of the index that is due behind it.
@@ -17,10 +17,9 @@ pub fn body_behind(
 {
     index.note(packet);
     let mut body = Vec::new(alloc);
-    match index.due() {
-        Some(IndexPacket::Node) => index.add_node(&mut body)?,
-        Some(IndexPacket::Root) => index.add_root(&mut body)?,
-        None => return Ok(None),
-    }
+    let Some(due) = index.due() else {
+        return Ok(None);
+    };
+    index.add_body(due, &mut body)?;
     Ok(Some(body))
 }

@@ -64,23 +64,15 @@ fn put(
     written: &mut Written,
 ) -> Option<()> {
     body.clear();
-    match packet {
-        IndexPacket::Node => index.add_node(body).ok()?,
-        IndexPacket::Root => index.add_root(body).ok()?,
-    }
+    index.add_body(packet, body).ok()?;
     let len = len_of(body.len())?;
     if index.due_at_end() != Some(packet) || !index.has_room(len) {
         return None;
     }
+    index.close(packet, len);
     match packet {
-        IndexPacket::Node => {
-            index.close_node(len);
-            written.nodes += 1;
-        }
-        IndexPacket::Root => {
-            index.close_root(len);
-            written.roots += 1;
-        }
+        IndexPacket::Node => written.nodes += 1,
+        IndexPacket::Root => written.roots += 1,
     }
     Some(())
 }

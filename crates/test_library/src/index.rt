@@ -32,18 +32,12 @@ fn put(index: &mut Index, body: &mut Vec<u8>) -> Result<Option<IndexPacket>, Fai
     let Some(packet) = index.due_at_end() else {
         return Ok(None);
     };
-    match packet {
-        IndexPacket::Node => index.add_node(body)?,
-        IndexPacket::Root => index.add_root(body)?,
-    }
+    index.add_body(packet, body)?;
     let len = len_of(body)?;
     if !index.has_room(len) {
         return Err("no room".into());
     }
-    match packet {
-        IndexPacket::Node => index.close_node(len),
-        IndexPacket::Root => index.close_root(len),
-    }
+    index.close(packet, len);
     Ok(Some(packet))
 }
 
