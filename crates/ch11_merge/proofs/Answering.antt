@@ -1,6 +1,7 @@
 -- What is answered, of sources that say their pieces.
 use Rattle.std.proofs.Common.{ℕ, ◌≡◌, ◌≢◌, ◌<◌, List, [], ◌∷◌, length, get_or, map, refl, sym, ◌∙◌, ap, subst, All, Some, None, Option}
 use Rattle.std.specs.Prelude.{true, false, slice_get, slice_set, IfSome, IsSomeAnd}
+use Rattle.std.proofs.lemmas.List.{map-set}
 use Rattle.std.proofs.lemmas.Option.{same_Some, none-some, slice_get-get_or}
 use Rattle.ch11_merge.specs.declared.source.Head.{Head}
 use Rattle.ch11_merge.specs.declared.source.Head.TheVariants.{End}
@@ -8,7 +9,7 @@ use Rattle.ch11_merge.specs.declared.channels.MergedChannel.{MergedChannel}
 use Rattle.ch11_merge.specs.Merging.{FilePiece, ChannelLeft, head_of, is_ahead, IsNextAt, is_due, TakesPart, channel_with, TimeIsNext, PieceIsNext, NothingLeft}
 use Rattle.ch11_merge.specs.Placing.{Said, said_by, said_of, SayLeft, IsLeastIn}
 use Rattle.ch11_merge.proofs.Merged.{has_head}
-use Rattle.ch11_merge.proofs.Places.{all_there, all_from_there, other_there, map_set}
+use Rattle.ch11_merge.proofs.Places.{all_there, all_from_there, other_there}
 
 -- what an index of a list of channels gives stands there
 pub stands_there : {X : Type 0} (items slice : List X) (at : ℕ) (first : X) → slice ≡ items → at < length slice → first ≡ get_or items at first
@@ -115,9 +116,9 @@ piece_next left stands channels old at tick c d piece said n early took named =
     let t = some_at (left c.source) (λ pieces. IsSomeAnd (left d.source) (TakesPart tick pieces piece)) n.of.pieces n.says.left_is took in
     let r = rest_of (left d.source) tick n.of.pieces piece t in (
       slice_set old at (channel_with c.channel r.0),
-      map_set (said_by left) channels at d ∙ (ap (λ (s : List Said). slice_set s at (said_by left d)) said
+      map-set (said_by left) channels at d ∙ (ap (λ (s : List Said). slice_set s at (said_by left d)) said
           ∙ (ap (λ (x : Said). slice_set (map said_of old) at x) (said_same left d c.channel r.0 named r.1)
-          ∙ sym (map_set said_of old at (channel_with c.channel r.0)))),
+          ∙ sym (map-set said_of old at (channel_with c.channel r.0)))),
       record {
         at = at;
         of = n.of;

@@ -1,7 +1,7 @@
 -- Steps of channels with buffers are steps of the core's world, or leave it as it is.
 use Rattle.std.proofs.Common.{ℕ, ◌≡◌, List, [], ◌∷◌, ◌++◌, Some, refl, sym, ◌∙◌, ap, subst, map}
 use Rattle.std.specs.Prelude.{slice_get, slice_set}
-use Rattle.std.proofs.lemmas.List.{append-nil}
+use Rattle.std.proofs.lemmas.List.{append-nil, map-set}
 use Rattle.rec_lane.specs.Pieces.{PieceData}
 use Rattle.rec_core.specs.declared.reply.Reply.{Reply}
 use Rattle.rec_core.specs.declared.reply.Reply.TheVariants.{Took, Installed, Sent, Wrote, Closed as HasClosed}
@@ -10,7 +10,7 @@ use Rattle.rec_core.specs.World.EventData.{OfTake, OfInstall, OfSend, OfWrite, O
 use Rattle.rec_core.specs.Buffers.{FlowState, FlowWorld, FlowSpec, Move, flow_id, ClosesFlow, FlowDoes, FlowStepAt, FlowRun, LeadTo, return_places}
 use Rattle.rec_core.specs.Buffers.{opening_flow, opening_flows, without_buffers, specs_of_flows, IsUnrefusedRun}
 use Rattle.rec_core.specs.Buffers.Move.{TakesBuffer, AsksSource, OffersFrame, ClosesAtEnd, ClosesAtMost, SendsPiece, GoesOn, WritesPiece, GivesBack, Installs}
-use Rattle.rec_core.proofs.ListPlaces.{set_unseen, map_set, there_map}
+use Rattle.rec_core.proofs.ListPlaces.{set_unseen, there_map}
 use Rattle.rec_core.proofs.WorldRuns.{Runs, world, nowhere, then_on, at_place, one_after_another}
 
 abbrev channels_in : FlowWorld → List ChannelState
@@ -41,7 +41,7 @@ module _ (ring : ℕ) (old : FlowWorld) (at : ℕ) (f : FlowState) (there : slic
       let next = world (slice_set (channels_in old) at d) (old.out ++ more) in
       let e : next ≡ without_buffers (after old at g more) =
       ap (λ c. world (slice_set (channels_in old) at c) (old.out ++ more)) (sym is)
-      ∙ ap (λ cs. world cs (old.out ++ more)) (sym (map_set (λ (h : FlowState). h.channel) old.flows at g)) in (
+      ∙ ap (λ cs. world cs (old.out ++ more)) (sym (map-set (λ (h : FlowState). h.channel) old.flows at g)) in (
         event ∷ [],
         subst (λ w. Runs ring (without_buffers old) (event ∷ []) w) e
             (then_on ring (without_buffers old) next next event [] reply

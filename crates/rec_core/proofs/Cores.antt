@@ -1,6 +1,7 @@
 -- A step of a core, over the channels and the writer that its fields are.
 use Rattle.std.proofs.Common.{ℕ, ◌≡◌, ◌≢◌, ◌<◌, true, List, length, Some, Result, Err, get_or, sym, ◌∙◌, ap, subst, All}
 use Rattle.std.specs.Prelude.{slice_get, slice_set}
+use Rattle.std.proofs.lemmas.List.{map-set}
 use Rattle.std.proofs.lemmas.Option.{same_Some, slice_get-get_or}
 use Rattle.rec_lane.specs.Parts.{BeginsList}
 use Rattle.rec_lane.specs.declared.spec.LaneSpec.{LaneSpec}
@@ -14,7 +15,7 @@ use Rattle.rec_core.specs.World.{EventData, event_channel}
 use Rattle.rec_core.specs.Worlds.{ChannelParts, AreHeldParts, StepsCut, channels_of_parts, IsCore}
 use Rattle.rec_core.specs.Steps.{Serves}
 use Rattle.rec_core.specs.Views.{channel_parts, all_parts, core_of}
-use Rattle.rec_core.proofs.ListPlaces.{map_set, set_unseen, there_map}
+use Rattle.rec_core.proofs.ListPlaces.{set_unseen, there_map}
 use Rattle.rec_core.proofs.WorldSteps.{served, of_none, step_alone, core_after, known_at, held_at}
 
 -- the channel was found in these channels
@@ -51,7 +52,7 @@ pub core_steps : (channels : List Channel) (old new : WriterState) (at : ℕ) (c
     → ((size : ℕ) → Serves size (channel_parts channel) (channel_parts after) old new event answer)
     → StepsCut (core_of channels old) (core_of (slice_set channels at after) new) event answer
 core_steps channels old new at channel after event answer found spec grows version serves =
-    subst (λ ps. StepsCut (core_of channels old) (record { channels = ps; writer = new }) event answer) (sym (map_set channel_parts channels at after))
+    subst (λ ps. StepsCut (core_of channels old) (record { channels = ps; writer = new }) event answer) (sym (map-set channel_parts channels at after))
     (served (all_parts channels) old new at (channel_parts channel) (channel_parts after) event answer found.there found.named
     (ap (λ (l : LaneSpec). l.channel) spec) grows version serves)
 
@@ -61,7 +62,7 @@ pub core_stays : (channels : List Channel) (old new : WriterState) (at : ℕ) (c
     → IsCore (core_of channels old) → IsCore (core_of (slice_set channels at after) new)
 core_stays channels old new at channel after event answer found spec numbers steps is =
     let ids : channels_of_parts (all_parts (slice_set channels at after)) ≡ channels_of_parts (all_parts channels) =
-    ap channels_of_parts (map_set channel_parts channels at after)
+    ap channels_of_parts (map-set channel_parts channels at after)
     ∙ set_unseen (λ (p : ChannelParts). p.settings.channel) (all_parts channels) at (channel_parts channel) (channel_parts after) found.there
     (ap (λ (l : LaneSpec). l.channel) spec) in
     core_after (core_of channels old) (core_of (slice_set channels at after) new) event answer numbers ids

@@ -23,15 +23,6 @@ set_same [] k x is = refl
 set_same (z ∷ zs) zero x is = ap (λ w. w ∷ zs) (sym (same_Some z x is))
 set_same (z ∷ zs) (suc k) x is = ap (λ ws. z ∷ ws) (set_same zs k x is)
 
-pub set_twice : {X : Type 0} (xs : List X) (k : ℕ) (x y : X) → slice_set (slice_set xs k x) k y ≡ slice_set xs k y
-set_twice [] k x y = refl
-set_twice (z ∷ zs) zero x y = refl
-set_twice (z ∷ zs) (suc k) x y = ap (λ ws. z ∷ ws) (set_twice zs k x y)
-
-pub set_between : {X : Type 0} (xs : List X) (x y : X) (ys : List X) → slice_set (xs ++ x ∷ ys) (length xs) y ≡ xs ++ y ∷ ys
-set_between [] x y ys = refl
-set_between (z ∷ zs) x y ys = ap (λ ws. z ∷ ws) (set_between zs x y ys)
-
 -- what stands in a list of which one element was changed
 pub set_cases : {X : Type 0} (xs : List X) (k : ℕ) (y : X) (j : ℕ) (b : X) → slice_get (slice_set xs k y) j ≡ Some b
     → ((j ≡ k) × (b ≡ y)) ⊎ ((j ≢ k) × (slice_get xs j ≡ Some b))
@@ -57,11 +48,6 @@ pub set_unseen : {A B : Type 0} (f : A → B) (xs : List A) (k : ℕ) (x y : A) 
 set_unseen f [] k x y is same = refl
 set_unseen f (z ∷ zs) zero x y is same = ap (λ w. w ∷ map f zs) (same ∙ ap f (sym (same_Some z x is)))
 set_unseen f (z ∷ zs) (suc k) x y is same = ap (λ ws. f z ∷ ws) (set_unseen f zs k x y is same)
-
-pub map_set : {A B : Type 0} (f : A → B) (xs : List A) (k : ℕ) (y : A) → map f (slice_set xs k y) ≡ slice_set (map f xs) k (f y)
-map_set f [] k y = refl
-map_set f (x ∷ xs) zero y = refl
-map_set f (x ∷ xs) (suc k) y = ap (λ ws. f x ∷ ws) (map_set f xs k y)
 
 -- what stands in a map is of what stands there
 pub map_there : {A B : Type 0} (f : A → B) (xs : List A) (k : ℕ) (y : B) → slice_get (map f xs) k ≡ Some y → (x : A) × (slice_get xs k ≡ Some x) × (f x ≡ y)
@@ -160,10 +146,6 @@ map_more f xs i x within is = ap (map f) (take_more xs i x within ∙ ap (λ y. 
 -- what a map has at an index, of the element there
 pub map_at : {A B : Type 0} (f : A → B) (xs : List A) (k : ℕ) (e : A) (d : B) → k < length xs → get_or (map f xs) k d ≡ f (get_or xs k e)
 map_at f xs k e d within = get_or_from_slice_get (map f xs) k (f (get_or xs k e)) d (there_map f xs k (get_or xs k e) (slice_get-get_or xs k e within))
-
--- which value stands in for one past the end makes no difference within
-pub other_default : {X : Type 0} (xs : List X) (k : ℕ) (d e : X) → k < length xs → get_or xs k d ≡ get_or xs k e
-other_default xs k d e within = get_or_from_slice_get xs k (get_or xs k e) d (slice_get-get_or xs k e within)
 
 pub zip_push : {A B : Type 0} (R : A → B → Type 0) (xs : List A) (ys : List B) (x : A) (y : B) → AllZip R xs ys → R x y → AllZip R (xs ++ x ∷ []) (ys ++ y ∷ [])
 zip_push R [] [] x y all r = (r, tt)

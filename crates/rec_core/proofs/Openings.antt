@@ -3,7 +3,7 @@ use Rattle.std.proofs.Common.{ℕ, ◌+◌, ◌≡◌, ◌≢◌, ◌<◌, ◌�
 use Rattle.std.specs.Prelude.{slice_get}
 use Rattle.std.specs.List.{AllZip}
 use Rattle.std.specs.Arc.{arc_value}
-use Rattle.std.proofs.lemmas.List.{length-map, map-append, take_more}
+use Rattle.std.proofs.lemmas.List.{length-map, map-append, take_more, get_or_default}
 use Rattle.std.proofs.lemmas.List.Elements.{All-push}
 use Rattle.rec_lane.specs.declared.spec.LaneSpec.{LaneSpec}
 use Rattle.rec_core.specs.declared.spec.ChannelSpec.{ChannelSpec}
@@ -12,7 +12,7 @@ use Rattle.rec_core.specs.Openings.{SpecData, IsFilter, HaveFilters, channels_of
 use Rattle.rec_core.specs.World.{opening_channel}
 use Rattle.rec_core.specs.Worlds.{ChannelParts, HoldsChannel, channels_of_parts}
 use Rattle.rec_core.specs.Views.{channel_spec_data, specs_data, channel_parts, all_parts}
-use Rattle.rec_core.proofs.ListPlaces.{zip_push, map_at, map_more, there_map, other_default}
+use Rattle.rec_core.proofs.ListPlaces.{zip_push, map_at, map_more, there_map}
 use Rattle.std.proofs.lemmas.Option.{slice_get-get_or}
 
 pub channel_at : (specs : List ChannelSpec) (k : ℕ) (spec : ChannelSpec) → k < length specs
@@ -45,7 +45,7 @@ ids_len channels = length-map (all_parts channels) (λ (p : ChannelParts). p.set
 
 -- no ID up to the end is this one
 pub none_is : (ids : List ℕ) (channel at : ℕ) → length ids ≤ at → ((j : ℕ) → j < at → get_or ids j 0 ≢ channel) → All (λ (other : ℕ). other ≢ channel) ids
-none_is ids channel at past none k d within = λ e. none k (omega (arith, past, within)) (other_default ids k 0 d within ∙ e)
+none_is ids channel at past none k d within = λ e. none k (omega (arith, past, within)) (get_or_default ids k 0 d within ∙ e)
 
 -- ---- one channel more
 

@@ -4,7 +4,7 @@
 use Rattle.std.proofs.Common.{ℕ, ◌≡◌, ◌<◌, ◌≤◌, List, [], ◌∷◌, ◌++◌, length, Some, refl, sym, ◌∙◌, ap, subst, All, map}
 use Rattle.std.specs.Prelude.{slice_get}
 use Rattle.std.specs.List.{flat_map, Any, AllZip}
-use Rattle.std.proofs.lemmas.List.{append-nil, append_assoc, length-map}
+use Rattle.std.proofs.lemmas.List.{append-nil, append_assoc, length-map, set_at}
 use Rattle.std.proofs.lemmas.List.Elements.{All-cons, All-nil, All-head, All-tail, All-map}
 use Rattle.std.proofs.lemmas.Option.{slice_get_read}
 use Rattle.bpf_insn.specs.Bytes.{AreInRange}
@@ -19,7 +19,7 @@ use Rattle.rec_core.specs.Openings.{SpecData, AreSpecs, IsFilter, channels_of_sp
 use Rattle.rec_core.specs.World.{ChannelState, EventData, opening_channel, opening_world}
 use Rattle.rec_core.specs.Written.{IsEndedChannel, recorded_channel}
 use Rattle.rec_core.specs.Ties.{moves_of, close_of, passes_of, events_of, IsOfSpec, IsRunOfWorld}
-use Rattle.rec_core.proofs.ListPlaces.{All_there, All_from_places, map_same, map_there, get_behind, set_between}
+use Rattle.rec_core.proofs.ListPlaces.{All_there, All_from_places, map_same, map_there, get_behind}
 use Rattle.rec_core.proofs.Written.{of}
 use Rattle.rec_core.proofs.WorldRuns.{Runs, world, Makes, nowhere, one_after_another}
 use Rattle.rec_core.proofs.Moves.{Lane, IsLane, recorded_lane, moved_lane, closed_lane, lane_moved, lane_closed}
@@ -95,7 +95,7 @@ each_lane ring f g events P makes (lane ∷ lanes) before out all =
     let start = world (before ++ f lane ∷ map f lanes) out in
     let mid = world (before ++ g lane ∷ map f lanes) out in
     let here : Runs ring start (events lane) mid =
-    subst (λ cs. Runs ring start (events lane) (world cs out)) (set_between before (f lane) (g lane) (map f lanes))
+    subst (λ cs. Runs ring start (events lane) (world cs out)) (set_at before (f lane) (map f lanes) (g lane) (length before) refl)
     (makes lane (All-head P lane lanes all) (before ++ f lane ∷ map f lanes) out (length before) (get_behind before (f lane) (map f lanes))) in
     let rest : Runs ring mid (flat_map events lanes) (world (before ++ g lane ∷ map g lanes) out) =
     subst (λ cs. Runs ring mid (flat_map events lanes) (world cs out)) (append_assoc before (g lane ∷ []) (map g lanes))

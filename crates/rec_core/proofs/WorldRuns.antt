@@ -1,12 +1,12 @@
 -- Runs of the model world in which nothing is refused, put together.
 use Rattle.std.proofs.Common.{ℕ, ◌≡◌, List, [], ◌∷◌, ◌++◌, Some, refl, sym, subst}
 use Rattle.std.specs.Prelude.{slice_get, slice_set, Ok}
-use Rattle.std.proofs.lemmas.List.{append-nil}
+use Rattle.std.proofs.lemmas.List.{append-nil, set-set}
 use Rattle.rec_lane.specs.Pieces.{PieceData}
 use Rattle.rec_core.specs.declared.reply.Reply.{Reply}
 use Rattle.rec_core.specs.World.{ChannelState, WorldState, EventData, event_channel, ChannelDoes, WorldStep, WorldRun}
 use Rattle.rec_core.specs.Ties.{unrefused}
-use Rattle.rec_core.proofs.ListPlaces.{set_same, set_there, set_twice}
+use Rattle.rec_core.proofs.ListPlaces.{set_same, set_there}
 
 -- none of the events is refused
 abbrev pub Runs : ℕ → WorldState → List EventData → WorldState → Type 0
@@ -71,5 +71,5 @@ pub makes_both : (ring : ℕ) (c d e : ChannelState) (es fs : List EventData) �
 makes_both ring c d e es fs first second channels out k there =
     one_after_another ring (world channels out) (world (slice_set channels k d) out) (world (slice_set channels k e) out) es fs
     (first channels out k there)
-    (subst (λ cs. Runs ring (world (slice_set channels k d) out) fs (world cs out)) (set_twice channels k d e)
+    (subst (λ cs. Runs ring (world (slice_set channels k d) out) fs (world cs out)) (set-set channels k d e)
     (second (slice_set channels k d) out k (set_there channels k c d there)))

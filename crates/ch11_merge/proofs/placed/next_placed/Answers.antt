@@ -1,11 +1,11 @@
 use Rattle.std.proofs.Common.{refl, sym, ◌∙◌, ap, subst, ◌≡◌, List, All}
 use Rattle.std.specs.Prelude.{slice_set}
 use Rattle.std.specs.BinaryHeap.{heap_items}
+use Rattle.std.proofs.lemmas.List.{set-get_or}
 use Rattle.ch11_merge.specs.Merging.{is_due}
 use Rattle.ch11_merge.specs.Placing.{SayLeft}
 use Rattle.ch11_merge.specs.declared.channels.MergedChannel.{MergedChannel}
 use Rattle.ch11_merge.specs.declared.source.Head.TheVariants.{End}
-use Rattle.ch11_merge.proofs.Places.{set_same}
 use Rattle.ch11_merge.proofs.Answering.{nothing_left, next_said_there, stands_there, time_next, piece_next, least_there_stands}
 use Rattle.ch11_merge.proofs.Stands.{stands_again}
 use Rattle.ch11_merge.proofs.placed.next_placed.Goals as goal
@@ -29,7 +29,7 @@ returns-then-is_due g c = λ old said.
     let items = c.channels.inside.channels.items in
     let first = c.index_mut-first.result.now in
     let is = c.index_mut-first.ensures.value in
-    let kept : slice_set items c.in-Some.at first ≡ items = ap (λ d. slice_set items c.in-Some.at d) is ∙ set_same items c.in-Some.at first in
+    let kept : slice_set items c.in-Some.at first ≡ items = ap (λ d. slice_set items c.in-Some.at d) is ∙ set-get_or items c.in-Some.at first in
     let there = stands_there items _ c.in-Some.at first c.as_slice.ensures.value c.in-Some.ensures.within is in
     let n = next_said_there left stands items old c.in-Some.at first g.met.S.PieceSource.stands_first (rw c.channels.view_is said)
     (rw (← c.as_slice.ensures.value) c.in-Some.ensures.least) there in (
