@@ -9,15 +9,16 @@ use Rattle.std.proofs.lemmas.List.{reverse-append}
 use Rattle.ch11_setup.specs.Attributes.{Lacks}
 use Rattle.ch11_setup.specs.Names.{is_plain, begins_character, plain_byte, plain_text, without_blanks, trimmed, or_none, cleaned}
 
-module _ (P : ℕ → Type 0) where
-  pub all_append : (front rest : List ℕ) → AllByRecursion P front → AllByRecursion P rest → AllByRecursion P (front ++ rest)
-  all_append [] rest are also = also
-  all_append (byte ∷ front) rest are also = (are.0, all_append front rest are.1 also)
+-- what holds of each of two lists holds of both together
+pub all_append : {X : Type 0} (P : X → Type 0) (front rest : List X) → AllByRecursion P front → AllByRecursion P rest → AllByRecursion P (front ++ rest)
+all_append P [] rest are also = also
+all_append P (x ∷ front) rest are also = (are.0, all_append P front rest are.1 also)
 
+module _ (P : ℕ → Type 0) where
   all_reverse : (bytes : List ℕ) → AllByRecursion P bytes → AllByRecursion P (reverse bytes)
   all_reverse [] are = tt
   all_reverse (byte ∷ bytes) are =
-      subst (AllByRecursion P) (sym (reverse-append (byte ∷ []) bytes)) (all_append (reverse bytes) (byte ∷ []) (all_reverse bytes are.1) (are.0, tt))
+      subst (AllByRecursion P) (sym (reverse-append (byte ∷ []) bytes)) (all_append P (reverse bytes) (byte ∷ []) (all_reverse bytes are.1) (are.0, tt))
 
   pub all_take : (n : ℕ) (bytes : List ℕ) → AllByRecursion P bytes → AllByRecursion P (take n bytes)
   all_take zero bytes are = tt

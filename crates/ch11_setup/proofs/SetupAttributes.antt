@@ -126,8 +126,7 @@ of_network name value n small colon semicolon are = record {
 -- ---- groups
 
 are_append : (attributes others : List AttributeData) → AreAttributes attributes → AreAttributes others → AreAttributes (attributes ++ others)
-are_append [] others are also = also
-are_append (attribute ∷ attributes) others are also = (are.0, are_append attributes others are.1 also)
+are_append attributes others are also = all_append IsAttribute attributes others are also
 
 general_are : (test host : List ℕ) (time : CivilTime) → Lacks 59 test → Lacks 59 host → IsCivilTime time
     → AreAttributes (general_attributes test host time)

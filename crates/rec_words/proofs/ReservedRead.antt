@@ -11,8 +11,10 @@ use Rattle.std.proofs.lemmas.Slice.Eq.{bytes_eq-Decides, starts_is}
 use Rattle.ch11_setup.specs.declared.setup.Setup.{Setup}
 use Rattle.ch11_setup.specs.declared.setup.SetupChannel.{SetupChannel}
 use Rattle.ch11_setup.specs.Attributes.{AttributeData, cut_at}
-use Rattle.ch11_setup.specs.Lines.{comment_attribute}
-use Rattle.ch11_setup.specs.Setups.{channels_attributes, IsSetup}
+use Rattle.ch11_setup.specs.Lines.{comment_attribute, content_attributes, general_attributes, index_attributes, recorder_attributes}
+use Rattle.ch11_setup.specs.Names.{cleaned}
+use Rattle.ch11_setup.specs.Setups.{channels_attributes, recording_attributes, source_attributes, test_name, IsSetup}
+use Rattle.ch11_setup.proofs.CleanedNames.{all_append}
 use Rattle.rec_words.specs.Settings.{is_among}
 use Rattle.rec_words.specs.Format.{IsOneOfNames}
 use Rattle.rec_words.specs.ReservedNames.{single_names, channel_beginnings, test_attribute, plain_name, without_last_blanks, begins_as_one, is_taken}
@@ -116,132 +118,28 @@ channels_found : (n : ℕ) (channels : List SetupChannel) → AreFound (channels
 channels_found n [] = (refl, tt)
 channels_found n (channel ∷ channels) = (refl, (refl, (refl, (refl, (refl, (refl, (refl, (refl, (refl, channels_found (n + 1) channels)))))))))
 
-found_with : (is_indexed : Bool) (setup : Setup) → AreFound (own_attributes (record setup { is_indexed = is_indexed }))
-found_with true setup = (
-  refl,
-  (
-    refl,
-    (
-      refl,
-      (
-        refl,
-        (
-          refl,
-          (
-            refl,
-            (
-              refl,
-              (
-                refl,
-                (
-                  refl,
-                  (
-                    refl,
-                    (
-                      refl,
-                      (
-                        refl,
-                        (
-                          refl,
-                          (
-                            refl,
-                            (
-                              refl,
-                              (
-                                refl,
-                                (
-                                  refl,
-                                  (
-                                    refl,
-                                    (
-                                      refl,
-                                      (
-                                        refl,
-                                        (refl, (refl, (refl, (refl, (refl, (refl, channels_found 2 setup.channels.now)))))),
-                                      ),
-                                    ),
-                                  ),
-                                ),
-                              ),
-                            ),
-                          ),
-                        ),
-                      ),
-                    ),
-                  ),
-                ),
-              ),
-            ),
-          ),
-        ),
-      ),
-    ),
-  ),
-)
-found_with false setup = (
-  refl,
-  (
-    refl,
-    (
-      refl,
-      (
-        refl,
-        (
-          refl,
-          (
-            refl,
-            (
-              refl,
-              (
-                refl,
-                (
-                  refl,
-                  (
-                    refl,
-                    (
-                      refl,
-                      (
-                        refl,
-                        (
-                          refl,
-                          (
-                            refl,
-                            (
-                              refl,
-                              (
-                                refl,
-                                (
-                                  refl,
-                                  (
-                                    refl,
-                                    (
-                                      refl,
-                                      (
-                                        refl,
-                                        (refl, (refl, (refl, (refl, channels_found 2 setup.channels.now)))),
-                                      ),
-                                    ),
-                                  ),
-                                ),
-                              ),
-                            ),
-                          ),
-                        ),
-                      ),
-                    ),
-                  ),
-                ),
-              ),
-            ),
-          ),
-        ),
-      ),
-    ),
-  ),
-)
+found_append : (front rest : List AttributeData) → AreFound front → AreFound rest → AreFound (front ++ rest)
+found_append front rest are also =
+    all_append (λ attribute. (is_reserved attribute.name || bytes_eq attribute.name test_attribute) ≡ true) front rest are also
 
+index_found : (is_indexed : Bool) → AreFound (index_attributes is_indexed)
+index_found true = (refl, (refl, (refl, tt)))
+index_found false = (refl, tt)
+
+content_found : (is_indexed : Bool) (sources : ℕ) → AreFound (content_attributes is_indexed sources)
+content_found is_indexed sources = (refl, found_append (index_attributes is_indexed) _ (index_found is_indexed) (refl, (refl, tt)))
+
+-- the recording and its recorder, and then the sources
 all_found : (setup : Setup) → AreFound (own_attributes setup)
-all_found setup = found_with setup.is_indexed setup
+all_found setup =
+    let general = general_attributes (test_name setup.attributes.now) (cleaned setup.host.now) setup.time in
+    let recorder = recorder_attributes (cleaned setup.host.now) (cleaned setup.program.now) setup.time in
+    let content = content_attributes setup.is_indexed (length setup.channels.now + 1) in
+    found_append (recording_attributes setup) (source_attributes setup ++ (comment_attribute ∷ []))
+    (found_append general (recorder ++ content) (refl, (refl, (refl, (refl, (refl, (refl, tt))))))
+    (found_append recorder content (refl, (refl, (refl, (refl, (refl, (refl, tt))))))
+    (content_found setup.is_indexed (length setup.channels.now + 1))))
+    (refl, (refl, (refl, (refl, (refl, (refl, (refl, (refl, channels_found 2 setup.channels.now))))))))
 
 found_are : (attributes : List AttributeData) → AreFound attributes → AreReserved attributes
 found_are [] h = tt
