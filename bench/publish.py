@@ -8,8 +8,8 @@ with --fast to bpfrec receive on this machine: frames a second by the clock and 
 plays a recorder: it writes a packet of 10 frames each 50 ms into a recording that goes on, which publish follows, and
 prints how long after each write the datagram came here.
 
-Goal: 100,000 frames a second of 300 bytes of publish's processor; the status is 1 where it is missed. It needs bin/bpfrec
-(make build). Files go to TMPDIR.
+Goal: 300,000 frames a second of 300 bytes of publish's processor, its stream's with it; the status is 1 where it is missed.
+It needs bin/bpfrec (make build). Files go to TMPDIR.
 """
 import argparse
 import os
@@ -32,7 +32,7 @@ from ground import PUBLISH, RECEIVE, listening, published, write_facts
 from support import BPFREC, KEEPS_ALL
 from whole_file import Origin, Setup
 
-GOAL, TICKS_A_FRAME, PATIENCE = 100_000, 100, 120
+GOAL, TICKS_A_FRAME, PATIENCE = 300_000, 100, 120
 SETUP = Setup((Origin(0, 1_764_590_400_250_000_000),), channels={1: ("eth0", 0)})
 
 

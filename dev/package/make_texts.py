@@ -15,7 +15,7 @@ from manual_page import pages
 
 PARTS = ROOT / "host/wireshark/parts"
 # In the order in which each uses those before it.
-ORDER = ("bytes", "packets", "reader", "json", "facts", "clock", "rows", "filters", "protocol", "handlers")
+ORDER = ("bytes", "packets", "reader", "json", "facts", "clock", "rows", "filters", "protocol", "datagrams", "handlers")
 
 
 def plugin() -> str:

@@ -144,7 +144,7 @@ def test_an_origin_that_comes_later_begins_another_stream(work: Path, monkeypatc
     one, other = played.setups()
     judge("the first says its name", one["attributes"] == ["G\\COM:flight_1.ch11"], one)
     judge("the other its place too", other["attributes"] == ["G\\COM:flight_1.ch11", f"G\\COM:from byte {at}"], other)
-    judge("and all origins", other["origins"] == [noted[0], {**noted[1], "scale": "unknown"}], other)
+    judge("and all origins", other["origins"] == [noted[0], noted[1] | {"scale": "unknown"}], other)
     judge("a scale that nobody knows is UTC", other["scale"] == "UTC" and "scale" in one, other)
 
 

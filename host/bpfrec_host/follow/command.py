@@ -117,7 +117,7 @@ def run(arguments: list[str]) -> int:
     signal.signal(signal.SIGPIPE, signal.SIG_DFL)
     try:
         with open(1, "wb", BUFFER_LEN, closefd=False) as out:
-            view = View(out, given.channel or [])
+            view = View(name_of("follow"), out, given.channel or [])
             is_damaged = follow(path, given.now, view)
             left = view.end()
     except OSError as error:

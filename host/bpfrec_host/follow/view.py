@@ -9,7 +9,7 @@ from bpfrec_host.follow.growing import Growing, Report
 from bpfrec_host.formats import pcapng_blocks
 from bpfrec_host.formats.ch11.body import BadBody, End, Frames, Program
 from bpfrec_host.formats.ch11.follow import Front
-from bpfrec_host.formats.facts import SCALE_UNKNOWN
+from bpfrec_host.formats.facts import SCALE_UNKNOWN, Facts
 from bpfrec_host.formats.limits import (
     BODY_WORD_LEN,
     ETHERNET_DATA,
@@ -25,8 +25,6 @@ from bpfrec_host.live.names import facts_path
 from bpfrec_host.pcapng.index import body_of
 from bpfrec_host.pcapng.merging import program_text
 from bpfrec_host.pcapng.slices import CONTENT, FRAME, MARKS
-
-PROGRAM = "bpfrec follow"
 
 
 class Interface:
@@ -44,17 +42,17 @@ class Interface:
 
 
 class View:
-    """The capture that is written, over all recordings of a run."""
+    """The capture that a verb writes, over all recordings of a run."""
 
-    def __init__(self, out: BinaryIO, asked: list[int]) -> None:
-        self.out, self.asked = out, asked
+    def __init__(self, verb: str, out: BinaryIO, asked: list[int]) -> None:
+        self.verb, self.out, self.asked = verb, out, asked
         self.interfaces: dict[int, Interface] = {}
         self.texts = Texts()
         self.frames = self.skipped = 0
         # Texts of marks that wait for the next frame, and recordings before whose facts may still get some.
         self.marks: list[str] = []
         self.ending: list[Recording] = []
-        out.write(pcapng_blocks.section(PROGRAM, []))
+        out.write(pcapng_blocks.section(verb, []))
         # Its reader begins with that, however long the first frame takes.
         out.flush()
 
@@ -91,6 +89,18 @@ class View:
         self.out.write(pcapng_blocks.packet(interface.number, moment, frame, options))
         self.frames += 1
 
+    def frames_in(self, data: bytes) -> Iterator[tuple[int, int, bytes]]:
+        """The frames of a body, which is whole: counters, marks as in a feed, and bytes."""
+        at = BODY_WORD_LEN
+        for _ in range(int.from_bytes(data[:2], "little")):
+            counter, word = FRAME.unpack_from(data, at)
+            length, begin = word & MAX_FRAME_LEN, at + FRAME_HEADER_LEN
+            at = begin + length + (length & 1)
+            if word & CONTENT or length < MIN_FRAME_LEN:
+                self.skipped += 1
+                continue
+            yield counter & MAX_COUNTER, MARKS[word >> 30], data[begin : begin + length]
+
     def look_back(self) -> None:
         """Takes marks of recordings before, whose last facts come once they are audited."""
         for recording in self.ending:
@@ -102,7 +112,7 @@ class View:
         """The run has ended: marks that no frame follows, which are the comments of a section of their own too."""
         self.look_back()
         if self.marks:
-            self.out.write(pcapng_blocks.section(PROGRAM, self.marks))
+            self.out.write(pcapng_blocks.section(self.verb, self.marks))
         return self.marks
 
 
@@ -169,21 +179,9 @@ class Recording(Growing):
         if isinstance(what, Frames):
             self.report_scale()
             interface = self.view.interface(header.channel, self.name(header.channel))
-            for counter, marks, frame in self.frames_in(packet[HEADER_LEN : HEADER_LEN + header.data_len]):
+            for counter, marks, frame in self.view.frames_in(packet[HEADER_LEN : HEADER_LEN + header.data_len]):
                 self.show_marks(counter)
                 self.view.frame(interface, self.moment_of(counter), marks, frame)
-
-    def frames_in(self, data: bytes) -> Iterator[tuple[int, int, bytes]]:
-        """The frames of a body, which is whole: counters, marks as in a feed, and bytes."""
-        at = BODY_WORD_LEN
-        for _ in range(int.from_bytes(data[:2], "little")):
-            counter, word = FRAME.unpack_from(data, at)
-            length, begin = word & MAX_FRAME_LEN, at + FRAME_HEADER_LEN
-            at = begin + length + (length & 1)
-            if word & CONTENT or length < MIN_FRAME_LEN:
-                self.view.skipped += 1
-                continue
-            yield counter & MAX_COUNTER, MARKS[word >> 30], data[begin : begin + length]
 
     def report_scale(self) -> None:
         """Says ahead of the first frames where nobody knows in which scale their times are."""
@@ -192,6 +190,11 @@ class Recording(Growing):
         self.has_shown_frames = True
 
     def moment_of(self, counter: int) -> int:
-        """The moment of a counter, which a capture has from 1970 on."""
-        moment = self.known.facts.moment_of(counter) if self.known else counter * NANOSECONDS_A_TICK
-        return min(max(moment or 0, 0), pcapng_blocks.MOST_UNITS)
+        """The moment of a counter in a capture."""
+        return moment_in(self.known.facts if self.known else None, counter)
+
+
+def moment_in(known: Optional[Facts], counter: int) -> int:
+    """The moment of a counter by facts, which a capture has from 1970 on."""
+    moment = known.moment_of(counter) if known else counter * NANOSECONDS_A_TICK
+    return min(max(moment or 0, 0), pcapng_blocks.MOST_UNITS)

@@ -49,7 +49,7 @@ class Stream:
             with suppress(OSError):
                 fcntl.fcntl(pipe, F_SETPIPE_SZ, PIPE_LEN)
         # What begins a packet that isn't whole yet.
-        self.held = bytearray()
+        self.held = b""
         self.is_over = False
 
     def started(self, setup: str) -> subprocess.Popen[bytes]:
@@ -87,15 +87,14 @@ class Stream:
 
     def take(self, data: bytes) -> None:
         """Takes bytes of packets."""
-        self.held += data
-        at = 0
-        while len(self.held) >= at + HEADER_LEN:
-            (length,) = LENGTH.unpack_from(self.held, at + LENGTH_AT)
-            if len(self.held) < at + length:
+        held, at = self.held + data, 0
+        while len(held) >= at + HEADER_LEN:
+            (length,) = LENGTH.unpack_from(held, at + LENGTH_AT)
+            if len(held) < at + length:
                 break
-            self.add(bytes(self.held[at : at + length]))
+            self.add(held[at : at + length])
             at += length
-        del self.held[:at]
+        self.held = held[at:]
 
     def end(self) -> Counts:
         """Takes what is left behind the last byte of its recording; Broken where it was refused or died."""

@@ -5,14 +5,13 @@ from __future__ import annotations
 import time
 from typing import Optional
 
-from bpfrec_host.follow.growing import PAUSE
 from bpfrec_host.formats.facts import Origin
 from bpfrec_host.publish.datagrams import Datagrams
 from bpfrec_host.publish.recording import Placed, Recording
 from bpfrec_host.publish.stream import Broken, Stream
 
-# How much is read of the recording at once.
-PIECE = 1 << 18
+# How much is read of the recording at once, and how often one looks for more, in seconds.
+PIECE, PAUSE = 1 << 18, 0.015
 
 
 class Streaming:

@@ -3,9 +3,11 @@
 from __future__ import annotations
 
 import argparse
+import os
 import select
 import signal
 import socket
+import sys
 import time
 from types import FrameType
 from typing import Optional
@@ -19,19 +21,23 @@ from bpfrec_host.quantities import seconds
 from bpfrec_host.receive.assembling import Assembling
 from bpfrec_host.receive.listening import MAX_DATAGRAM_LEN, opened
 from bpfrec_host.receive.output import Files
+from bpfrec_host.receive.shown import Shown
 from bpfrec_host.receive.source import Source, address_of
 from bpfrec_host.receive.window import Window
-from bpfrec_host.streams import Refused, Unreadable
+from bpfrec_host.streams import STREAM, Refused, Unreadable
 
 ABOUT = """\
 Writes what bpfrec publish sends into a file: packets of Chapter 11, each once and in order.
 
   bpfrec receive 239.1.2.3:50000 flight.ch10
+  bpfrec receive --pcapng - 239.1.2.3:50000 | wireshark -k -i -
 
 ADDRESS:PORT is an address of this machine, as 0.0.0.0:50000 or [::]:50000, or a multicast group, which is joined.
 OUT begins with the first setup record that comes, and what came ahead of it is behind it. Of each further stream, as of
 the next recording of a run, a further file is made, as flight_00002.ch10. An OUT that exists is refused unless --force is
 given; `-` is standard output, which gets all recordings.
+With --pcapng - standard output gets the frames as a capture too, with the names of the setup record and the times of the
+time packets. A reader that is slow may cost datagrams; one that leaves ends it where there is no OUT.
 
 OUT is a Chapter 11 file without an index. Where nothing is missing it is the stream, byte for byte, of which `bpfrec check`
 says what went out late. bpfrec audit and bpfrec extract answer as for the recording.
@@ -61,8 +67,10 @@ def parser() -> Parser:
     sender = "takes datagrams of this sender alone"
     made.add_argument("--from", metavar="ADDRESS", dest="sender", type=address_of, help=sender)
     made.add_argument("--force", action="store_true", help="overwrites an OUT that exists")
+    seen = "gives a capture of what comes to standard output, for Wireshark; then OUT may be missing"
+    made.add_argument("--pcapng", metavar="-", choices=[STREAM], help=seen)
     made.add_argument("address", metavar="ADDRESS:PORT", type=udp_address)
-    made.add_argument("out", metavar="OUT")
+    made.add_argument("out", metavar="OUT", nargs="?")
     return made
 
 
@@ -89,7 +97,9 @@ class Receiver:
 
     def __init__(self, given: argparse.Namespace, through: socket.socket, ending: Ending) -> None:
         self.given, self.socket, self.ending = given, through, ending
-        self.files = Files(given.out, given.force)
+        self.files = Files(
+            given.out, given.force, Shown(name_of("receive"), sys.stdout.buffer) if given.pcapng else None
+        )
         self.assembling = Assembling(self.take)
         self.window = Window(self.assembling.add, self.gap, self.restart)
         self.datagrams = self.damaged = self.gaps = self.broken = 0
@@ -131,12 +141,12 @@ class Receiver:
         ends = begun + self.given.seconds if self.given.seconds else None
         poll = select.poll()
         poll.register(self.socket, select.POLLIN)
-        while not self.ending.is_due and not self.is_over(time.monotonic(), ends):
+        while not self.ending.is_due and not self.files.is_in_vain() and not self.is_over(time.monotonic(), ends):
             if poll.poll(GAP_PATIENCE * 1_000):
                 self.read()
             else:
                 self.window.give_up()
-            self.files.out.flush()
+            self.files.flush()
         self.ends = self.ends or time.monotonic() + LAST
         while self.read():
             pass
@@ -176,9 +186,13 @@ class Receiver:
             err(f"{self.gaps - MOST_LINES} more gaps")
         damaged = self.damaged + self.assembling.damaged
         counts = f"lost {window.lost} doubled {window.doubled} damaged {damaged} skipped {files.skipped} foreign {self.source.foreign}"
-        files.out.report(f"received packets {files.packets} datagrams {self.datagrams} {counts}")
+        line = f"received packets {files.packets} datagrams {self.datagrams} {counts}"
+        if self.given.pcapng:
+            printing.err(line)
+        else:
+            files.out.report(line)
         if not files.packets:
-            err(f"{files.out.name} is empty: no recording was received")
+            err(f"{self.given.out or STREAM} is empty: no recording was received")
         return 1 if window.lost or damaged or self.broken or not files.packets else 0
 
 
@@ -188,9 +202,15 @@ def run(arguments: list[str]) -> int:
     given = made.parse_args(arguments)
     if given.interface and not given.address.is_multicast():
         made.error(f"--interface is for a multicast group, which {given.address} is not")
+    if given.pcapng and given.out == STREAM:
+        made.error("--pcapng - takes standard output, and OUT is that too")
+    if not given.pcapng and given.out is None:
+        made.error("the following arguments are required: OUT")
     # Ahead of OUT, by which another program sees that it listens.
     ending = Ending()
     try:
+        if given.pcapng and os.isatty(1):
+            raise Refused("standard output is a terminal, which shows no capture")
         with listening(given) as through:
             receiver = Receiver(given, through, ending)
             receiver.run()

@@ -2,6 +2,7 @@
 
 from __future__ import annotations
 
+import os
 import time
 from collections import deque
 from contextlib import suppress
@@ -11,6 +12,7 @@ from bpfrec_host.formats.ch11.body import BadBody, End, record_in
 from bpfrec_host.formats.ch11.packet import Header
 from bpfrec_host.formats.limits import BODY_WORD_LEN, ETHERNET_DATA, HEADER_LEN, RECORD_CHANNEL
 from bpfrec_host.live.names import Names
+from bpfrec_host.receive.shown import Shown
 from bpfrec_host.streams import STREAM, Output
 
 SETUP = 0x01
@@ -21,9 +23,12 @@ MOST_FILES = 10
 
 
 class Files:
-    """Writes packets into OUT, and those of further recordings into files with a number behind that name."""
+    """Writes packets into OUT, and those of further recordings into files with a number behind that name; without an OUT
+    they are shown alone."""
 
-    def __init__(self, out: str, is_forced: bool) -> None:
+    def __init__(self, out: Optional[str], is_forced: bool, shown: Optional[Shown] = None) -> None:
+        self.is_kept, self.shown = out is not None, shown
+        out = out or os.devnull
         self.out = Output(out, is_forced=is_forced)
         self.names = Names(out)
         # The first of further recordings is the second.
@@ -99,6 +104,7 @@ class Files:
     def end(self) -> None:
         """Nothing comes any more."""
         self.drop_kept()
+        self.flush()
         self.out.close()
 
     def may_begin(self, now: float) -> bool:
@@ -112,7 +118,7 @@ class Files:
     def begin_next(self) -> None:
         """Begins a further file, under a name that nothing has; a pipe gets all."""
         self.open.clear()
-        if self.out.name == STREAM:
+        if self.out.name == STREAM or not self.is_kept:
             return
         self.out.close()
         self.out = Output(self.names.next()[1])
@@ -123,6 +129,18 @@ class Files:
         self.packets += 1
         self.note_end(header, packet)
         self.out.write(packet)
+        if self.shown:
+            self.shown.take(header, packet)
+
+    def flush(self) -> None:
+        """Has all seen that was written."""
+        self.out.flush()
+        if self.shown:
+            self.shown.flush()
+
+    def is_in_vain(self) -> bool:
+        """Whether nobody gets what comes: the capture's reader has left, and there is no OUT."""
+        return not self.is_kept and self.shown is not None and not self.shown.has_reader
 
     def note_end(self, header: Header, packet: bytes) -> None:
         """Notes which channels have not ended."""

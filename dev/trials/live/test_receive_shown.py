@@ -1,0 +1,88 @@
+"""Tries what bpfrec receive shows of what comes: a capture with the names of the setup record and the times of the time
+packets, as tshark reads it."""
+
+from __future__ import annotations
+
+import signal
+import subprocess
+from pathlib import Path
+
+import pytest
+from frames import FRAMES
+from ground import RECEIVE, drawn_flight, free_port, is_taken, send, stream_of
+from rows import printed
+from support import judge, judge_quietly, outcome, wait_for
+from whole_file import frames_in
+from whole_file_parts import ORIGIN, parts_of
+
+WANTED = {"bin/bpfrec": "make build", "ip": "iproute2", "tshark": "tshark"}
+pytestmark = [pytest.mark.usefixtures("namespace")]
+FIELDS = [word for it in ("interface_name", "time_epoch", "len") for word in ("-e", f"frame.{it}")]
+
+
+def rows_of(path: Path) -> list[str]:
+    """What tshark should print of a recording that is published. Its times are those of the time packets, to the tick."""
+    stream, found = stream_of(path), []
+    for part in parts_of(bytes(stream.file.data)):
+        for frame in frames_in(part.data) if part.kind == FRAMES else []:
+            seconds, rest = divmod(ORIGIN // 100 * 100 + frame.counter * 100, 10**9)
+            name, _ = stream.setup.channels[part.channel]
+            found.append(f"{name}\t{seconds}.{rest:09}\t{len(frame.bytes)}")
+    return found
+
+
+def receiving(port: int, shown: Path, *words: object) -> subprocess.Popen[str]:
+    """bpfrec receive, whose capture goes into a file."""
+    arguments = [str(it) for it in (RECEIVE, "--pcapng", "-", f"127.0.0.1:{port}", *words)]
+    with open(shown, "wb") as out:
+        receiver = subprocess.Popen(arguments, stdout=out, stderr=subprocess.PIPE, text=True)
+    wait_for("it listens", lambda: is_taken(port))
+    return receiver
+
+
+@pytest.mark.parametrize("has_out", [False, True], ids=["alone", "beside OUT"])
+def test_what_comes_is_a_capture(work: Path, has_out: bool) -> None:
+    path, port, shown = drawn_flight(work, 3), free_port(), work / "shown.pcapng"
+    receiver = receiving(port, shown, *([work / "ground.ch10"] if has_out else []))
+    send(path, f"127.0.0.1:{port}")
+    rows = rows_of(path)
+    wait_for("it is shown as it comes", lambda: shown.stat().st_size > 1_000)
+    receiver.terminate()
+    _, told = receiver.communicate(timeout=30)
+    judge("it ends well", receiver.returncode == 0 and told.startswith("received packets "), told)
+    found = printed(work, "-r", shown, "-T", "fields", *FIELDS)
+    judge("each frame", found == rows, (len(found), len(rows)))
+    if has_out:
+        judge("and the file", (work / "ground.ch10").read_bytes() == bytes(stream_of(path).file.data))
+    else:
+        judge("no file", not list(work.glob("*.ch10")))
+
+
+@pytest.mark.parametrize("has_out", [False, True], ids=["alone", "beside OUT"])
+def test_a_reader_that_leaves_ends_it_where_there_is_no_out(work: Path, has_out: bool) -> None:
+    path, port = drawn_flight(work, 3), free_port()
+    words = [str(it) for it in (RECEIVE, "--pcapng", "-", f"127.0.0.1:{port}")] + ["ground.ch10"] * has_out
+    pipe = subprocess.PIPE
+    receiver = subprocess.Popen(words, stdout=pipe, stderr=pipe, text=True, cwd=work)
+    wait_for("it listens", lambda: is_taken(port))
+    assert receiver.stdout
+    receiver.stdout.close()
+    send(path, f"127.0.0.1:{port}")
+    if has_out:
+        wait_for("it goes on", lambda: (work / "ground.ch10").stat().st_size == len(stream_of(path).file.data))
+        receiver.send_signal(signal.SIGTERM)
+    wait_for("it ends", lambda: receiver.poll() is not None)
+    assert receiver.stderr
+    told = receiver.stderr.read()
+    judge("with its counts", receiver.returncode in (0, 1) and told.startswith("received packets "), told)
+
+
+def test_what_cannot_be_shown_is_refused(work: Path) -> None:
+    for words, what in [
+        (["--pcapng", "-", "127.0.0.1:5", "-"], "--pcapng - takes standard output, and OUT is that too"),
+        (["--pcapng", "x", "127.0.0.1:5", "out"], "invalid choice: 'x'"),
+        (["127.0.0.1:5"], "the following arguments are required: OUT"),
+    ]:
+        done = outcome(RECEIVE, *words)
+        judge_quietly(what, (done.returncode, what in done.stderr) == (2, True), done)
+    judge("each", True)
