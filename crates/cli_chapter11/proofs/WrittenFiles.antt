@@ -2,9 +2,9 @@
 use Rattle.std.proofs.Common.{List, ◌≡◌, ◌∙◌, ap}
 use Rattle.ch11_clock.specs.declared.origin.Origin.{Origin}
 use Rattle.ch11_clock.specs.Clock.{started, held_origins}
-use Rattle.rec_words.specs.declared.setup_file.FileSettings.{FileSettings}
+use Rattle.rec_words.specs.declared.setup_file.RecordingSettings.{RecordingSettings}
 use Rattle.cli_chapter11.specs.WholeFiles.{clock_said}
 
-pub clock_of_setup : (settings : FileSettings) (clock origins : List Origin) → clock ≡ held_origins (started origins)
-    → origins ≡ settings.origins.items → clock ≡ clock_said settings
-clock_of_setup settings clock origins held is = held ∙ ap (λ l. held_origins (started l)) is
+pub clock_of_setup : (recording : RecordingSettings) (clock origins : List Origin) → clock ≡ held_origins (started origins)
+    → origins ≡ recording.origins.items → clock ≡ clock_said recording
+clock_of_setup recording clock origins held is = held ∙ ap (λ l. held_origins (started l)) is

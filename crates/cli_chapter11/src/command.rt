@@ -34,12 +34,13 @@ where
     let mut inputs = Inputs::new(alloc);
     inputs.add_streams(rt)?;
     inputs.add(&file)?;
-    let settings = setup_in(rt, &mut inputs, setup, out)?;
+    let settings = setup_in(rt, &mut inputs, setup, out, 1)?;
     let listing = listing_of(alloc, recording, &file)?;
     let mut whole = WholeFile {
         file: &file,
         listing: &listing,
-        settings: &settings,
+        general: &settings.general,
+        recording: &settings.recordings[0],
     };
     let mut named = NamedOut {
         rt,

@@ -1,5 +1,7 @@
 //! What the command reads.
 
+ghost use Rattle.std.specs.Prelude.{◌≡◌, IfOk, length};
+
 use cli_streams::{CommandEnding, Inputs, STREAM, bounded_text, refuse_output_into};
 use rec_pieces::{FileAt, ListingEnd, PieceListing, PlacedRead, list_recording};
 use rec_reader::Reader;
@@ -41,30 +43,36 @@ pub(crate) fn open_recording<'a, R: AllocGlobal + Files>(
     Ok(file)
 }
 
-/// What SETUP says. An OUT that is one of the inputs, SETUP too, is refused before it is read.
+/// What SETUP says of so many recordings. An OUT that is one of the inputs, SETUP too, is refused before it is read.
 pub(crate) fn setup_in<'a, R: AllocGlobal + Files>(
     rt: &R,
     inputs: &mut Inputs,
     setup: &'a str,
     out: &'a str,
-) -> Result<FileSettings, CommandEnding<'a>> {
+    recordings: usize,
+) -> Result<FileSettings, CommandEnding<'a>>
+    ensures { IfOk result (λ settings. length settings.recordings.items ≡ recordings) }
+{
     let opened = fs::open(rt, setup);
     if let Ok(file) = &opened {
         inputs.add(file)?;
     }
     inputs.refuse_input(rt, out)?;
-    settings_in(rt.alloc(), setup, opened)
+    settings_in(rt.alloc(), setup, opened, recordings)
 }
 
-/// What the SETUP says that was opened.
+/// What the SETUP that was opened says of so many recordings.
 pub(crate) fn settings_in<'a, F: Read + Drop>(
     alloc: Global,
     setup: &'a str,
     opened: io::Result<F>,
-) -> Result<FileSettings, CommandEnding<'a>> {
+    recordings: usize,
+) -> Result<FileSettings, CommandEnding<'a>>
+    ensures { IfOk result (λ settings. length settings.recordings.items ≡ recordings) }
+{
     let read = opened.and_then(|mut file| bounded_text(alloc, MAX_SETUP, &mut file));
     let text = read.map_err(|error| CommandEnding::of_io(setup, &error))?;
-    Ok(setup_of(alloc, text.as_str())?)
+    Ok(setup_of(alloc, text.as_str(), recordings)?)
 }
 
 /// The packets of a recording that is read to its end, by channels.

@@ -5,7 +5,8 @@ ghost use Rattle.ch11_setup.specs.Setups.{given_attribute};
 ghost use Rattle.rec_reader.specs.Packets.{PacketData};
 ghost use Rattle.rec_reader.specs.Reading.{Reads};
 ghost use Rattle.rec_pieces.specs.PieceListings.{ListsPackets};
-ghost use Rattle.rec_words.specs.SetupViews.{attribute_data, file_data, setup_channel_data};
+ghost use Rattle.rec_words.specs.SetupFile.{RecordingData};
+ghost use Rattle.rec_words.specs.SetupViews.{attribute_data, general_data};
 ghost use Rattle.cli_chapter11.specs.WholeFiles.{AreNamesOf, FailsBySetup, WritesBySetup, channel_said};
 
 use crate::channels::{attributes_of, channels_of};
@@ -16,7 +17,7 @@ use ch11_index::MOST_NAMED;
 use ch11_setup::{Attribute, SetupChannel};
 use rec_pieces::{PieceListing, PlacedRead};
 use rec_whole::{FileNames, WholeEnd, write_whole_file};
-use rec_words::FileSettings;
+use rec_words::{GeneralSettings, RecordingSettings};
 use std::alloc::Global;
 use std::io::Write;
 
@@ -62,8 +63,10 @@ pub(crate) struct WholeFile<'f, F> {
     pub file: &'f F,
     /// Its packets.
     pub listing: &'f PieceListing,
-    /// What SETUP says.
-    pub settings: &'f FileSettings,
+    /// What SETUP says of the whole file.
+    pub general: &'f GeneralSettings,
+    /// What it says of the recording.
+    pub recording: &'f RecordingSettings,
 }
 
 impl<'f, F: PlacedRead> Passes for WholeFile<'f, F> {
@@ -80,12 +83,12 @@ impl<'f, F: PlacedRead> Passes for WholeFile<'f, F> {
     ghost writes = { λ whole before held counts. (bytes : List ℕ) (packets : List PacketData)
         → F.held whole.file.now ≡ Some bytes → Reads bytes packets None
         → ListsPackets packets whole.listing.now
-        → WritesBySetup whole.settings.now packets before held counts };
+        → WritesBySetup whole.general.now whole.recording.now packets before held counts };
 
     ghost fails = { λ whole before held end. (bytes : List ℕ) (packets : List PacketData)
         → F.held whole.file.now ≡ Some bytes → Reads bytes packets None
         → ListsPackets packets whole.listing.now
-        → FailsBySetup whole.settings.now packets before held end };
+        → FailsBySetup whole.general.now whole.recording.now packets before held end };
 
     fn pass<W: Write + Drop>(&mut self, alloc: Global, output: W) -> Result<(Seen, W), WholeEnd> {
         write_once(alloc, self, output)
@@ -102,19 +105,20 @@ fn write_once<F: PlacedRead, W: Write + Drop>(
         (λ wrote. (bytes : List ℕ) (packets : List PacketData)
         → F.held whole.now.file.now ≡ Some bytes → Reads bytes packets None
         → ListsPackets packets whole.now.listing.now
-        → WritesBySetup whole.now.settings.now packets (W.contents output)
-        (W.contents wrote.1) wrote.0.counts)
+        → WritesBySetup whole.now.general.now whole.now.recording.now packets
+        (W.contents output) (W.contents wrote.1) wrote.0.counts)
         (λ end. (last : W) × ((bytes : List ℕ) (packets : List PacketData)
         → F.held whole.now.file.now ≡ Some bytes → Reads bytes packets None
         → ListsPackets packets whole.now.listing.now
-        → FailsBySetup whole.now.settings.now packets (W.contents output)
-        (W.contents last) end)) }
+        → FailsBySetup whole.now.general.now whole.now.recording.now packets
+        (W.contents output) (W.contents last) end)) }
 {
-    let settings = whole.settings;
-    let channels = channels_of(alloc, settings.channels.as_slice())?;
-    let attributes = attributes_of(alloc, settings.attributes.as_slice())?;
-    let clock = Clock::new(alloc, settings.origins.as_slice())?;
-    let names = names_of(settings, channels.as_slice(), attributes.as_slice());
+    let general = whole.general;
+    let recording = whole.recording;
+    let channels = channels_of(alloc, recording.channels.as_slice())?;
+    let attributes = attributes_of(alloc, general.attributes.as_slice())?;
+    let clock = Clock::new(alloc, recording.origins.as_slice())?;
+    let names = names_of(general, channels.as_slice(), attributes.as_slice());
     let mut summed = Summed {
         out: output,
         sum: ByteSum::NONE,
@@ -137,20 +141,19 @@ fn write_once<F: PlacedRead, W: Write + Drop>(
 
 /// The names of a whole file by SETUP, with its channels and its attributes as a setup record takes them.
 fn names_of<'a>(
-    settings: &'a FileSettings,
+    general: &'a GeneralSettings,
     channels: &'a [SetupChannel<'a>],
     attributes: &'a [Attribute<'a>],
 ) -> FileNames<'a>
-    requires channels { map channel_said channels.now
-        ≡ map setup_channel_data settings.now.channels.items }
-    requires attributes { map given_attribute attributes.now
-        ≡ map attribute_data settings.now.attributes.items }
-    ensures { AreNamesOf (file_data settings.now) result }
+    requires { map given_attribute attributes.now
+        ≡ map attribute_data general.now.attributes.items }
+    ensures { (recording : RecordingData) → map channel_said channels.now ≡ recording.channels
+        → AreNamesOf (general_data general.now) recording result }
 {
     FileNames {
-        host: settings.host.as_str(),
-        program: settings.program.as_str(),
-        is_external: settings.is_external,
+        host: general.host.as_str(),
+        program: general.program.as_str(),
+        is_external: general.is_external,
         channels,
         attributes,
     }

@@ -11,6 +11,7 @@ use cli_streams::{CommandEnding, STREAM, print_line, refuse_output_into_input};
 use rec_reader::Reader;
 use rec_stream::{StreamCounts, StreamEnd, write_stream};
 use rec_whole::FileNames;
+use rec_words::FileSettings;
 use std::alloc::Global;
 use std::fs;
 use std::io::{BufReader, BufWriter, Read, Write};
@@ -27,14 +28,18 @@ pub fn stream_chapter11<'a, R: AllocGlobal + Files, I: Read, O: Write, E: Write>
 ) -> Result<(), CommandEnding<'a>> {
     refuse_output_into_input(rt)?;
     let alloc = rt.alloc();
-    let settings = settings_in(alloc, setup, fs::open(rt, setup))?;
-    let channels = channels_of(alloc, settings.channels.as_slice())?;
-    let attributes = attributes_of(alloc, settings.attributes.as_slice())?;
-    let clock = Clock::new(alloc, settings.origins.as_slice())?;
+    let FileSettings {
+        recordings,
+        general,
+    } = settings_in(alloc, setup, fs::open(rt, setup), 1)?;
+    let recording = &recordings[0];
+    let channels = channels_of(alloc, recording.channels.as_slice())?;
+    let attributes = attributes_of(alloc, general.attributes.as_slice())?;
+    let clock = Clock::new(alloc, recording.origins.as_slice())?;
     let names = FileNames {
-        host: settings.host.as_str(),
-        program: settings.program.as_str(),
-        is_external: settings.is_external,
+        host: general.host.as_str(),
+        program: general.program.as_str(),
+        is_external: general.is_external,
         channels: channels.as_slice(),
         attributes: attributes.as_slice(),
     };

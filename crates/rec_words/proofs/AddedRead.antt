@@ -10,11 +10,12 @@ use Rattle.std.proofs.lemmas.Option.{none-some, cond_some}
 use Rattle.toml.specs.Data.{Data, string, integer, float, boolean, datetime, array, table as table_data, Items, no_items, item, Members, as_str, get_member}
 use Rattle.toml.specs.Parse.{parse_document}
 use Rattle.ch11_setup.specs.Attributes.{AttributeData, attribute_of, cut_at, Lacks}
-use Rattle.rec_words.specs.Settings.{Fault, syntax, only}
+use Rattle.rec_words.specs.Settings.{Fault, syntax, missing, only}
 use Rattle.rec_words.specs.ReservedNames.{is_reserved}
-use Rattle.rec_words.specs.SetupFile.{FileData, file_keys, text_or, truth_or, unknown_scale, origins_in}
+use Rattle.rec_words.specs.SetupFile.{GeneralData, FileData, file_keys, text_or, truth_or, unknown_scale, origins_in}
 use Rattle.rec_words.specs.SetupFile.{is_attribute_byte, attribute_with, attribute_said, attributes_said}
-use Rattle.rec_words.specs.SetupFile.{all_attributes, attributes_of, attributes_in, setup_channels_in, file_in, setup_file, CanBeAdded}
+use Rattle.rec_words.specs.SetupFile.{all_attributes, attributes_of, attributes_in, setup_channels_in, CanBeAdded}
+use Rattle.rec_words.specs.SetupFile.{recordings_of, general_in, file_by, file_in, setup_file}
 use Rattle.rec_words.proofs.KeysRead.{then_says}
 use Rattle.rec_words.proofs.ReservedRead.{cut_parts, reserved_from}
 
@@ -146,27 +147,45 @@ attributes_can m = by (get_member (codes "attributes") m)
     by None = tt
     by (Some d) = data_can d
 
+abbrev GeneralCan : GeneralData → Type 0
+GeneralCan general = AllCan general.attributes
+
+general_can : (m : Members) → MatchResult (general_in m) GeneralCan Any
+general_can m =
+    then_says GeneralCan (text_or (codes "bpfrec") (codes "host") m) _ (anything (text_or (codes "bpfrec") (codes "host") m)) (λ host _.
+    then_says GeneralCan (text_or (codes "bpfrec") (codes "program") m) _ (anything (text_or (codes "bpfrec") (codes "program") m)) (λ program _.
+    then_says GeneralCan (truth_or false (codes "external") m) _ (anything (truth_or false (codes "external") m)) (λ is_external _.
+    then_says GeneralCan (attributes_in m) _ (attributes_can m) (λ attributes can. can)
+    (λ f _. tt)) (λ f _. tt)) (λ f _. tt)) (λ f _. tt)
+
 abbrev FileCan : FileData → Type 0
-FileCan file = AllCan file.attributes
+FileCan file = GeneralCan file.general
 
-file_can : (m : Members) → MatchResult (file_in m) FileCan Any
-file_can m =
+file_can : (count : ℕ) (m : Members) → MatchResult (file_in count m) FileCan Any
+file_can count m =
     then_says FileCan (only file_keys m) _ (anything (only file_keys m)) (λ ms _.
-    then_says FileCan (unknown_scale m) _ (anything (unknown_scale m)) (λ unknown _.
-    then_says FileCan (origins_in unknown m) _ (anything (origins_in unknown m)) (λ origins _.
-    then_says FileCan (text_or (codes "bpfrec") (codes "host") m) _ (anything (text_or (codes "bpfrec") (codes "host") m)) (λ host _.
-    then_says FileCan (text_or (codes "bpfrec") (codes "program") m) _ (anything (text_or (codes "bpfrec") (codes "program") m)) (λ program _.
-    then_says FileCan (truth_or false (codes "external") m) _ (anything (truth_or false (codes "external") m)) (λ is_external _.
-    then_says FileCan (attributes_in m) _ (attributes_can m) (λ attributes can.
-    then_says FileCan (setup_channels_in m) _ (anything (setup_channels_in m)) (λ channels _. can)
-    (λ f _. tt)) (λ f _. tt)) (λ f _. tt)) (λ f _. tt)) (λ f _. tt)) (λ f _. tt)) (λ f _. tt)) (λ f _. tt)
-
-pub added_can : (text : List ℕ) (file : FileData) → setup_file text ≡ Ok file → AllByRecursion CanBeAdded file.attributes
-added_can text file is = by (parse_document text) is
+    then_says FileCan (unknown_scale m) _ (anything (unknown_scale m)) (λ unknown _. by unknown (get_member (codes "recording") m))
+    (λ f _. tt)) (λ f _. tt)
   where
-    by : (found : Option Members) → unwrap_or (option_map file_in found) (Err syntax) ≡ Ok file → AllCan file.attributes
+    by : (unknown : Option ℕ) (found : Option Data) → MatchResult (file_by count unknown m found) FileCan Any
+    by unknown None =
+        let alone = if count == 1 then Ok count else Err (missing (codes "recording")) in
+        then_says FileCan alone _ (anything alone) (λ n _.
+        then_says FileCan (origins_in unknown m) _ (anything (origins_in unknown m)) (λ origins _.
+        then_says FileCan (general_in m) _ (general_can m) (λ general can.
+        then_says FileCan (setup_channels_in m) _ (anything (setup_channels_in m)) (λ channels _. can)
+        (λ f _. tt)) (λ f _. tt)) (λ f _. tt)) (λ f _. tt)
+    by unknown (Some d) =
+        then_says FileCan (recordings_of count unknown m d) _ (anything (recordings_of count unknown m d)) (λ recordings _.
+        then_says FileCan (general_in m) _ (general_can m) (λ general can. can)
+        (λ f _. tt)) (λ f _. tt)
+
+pub added_can : (count : ℕ) (text : List ℕ) (file : FileData) → setup_file count text ≡ Ok file → AllByRecursion CanBeAdded file.general.attributes
+added_can count text file is = by (parse_document text) is
+  where
+    by : (found : Option Members) → unwrap_or (option_map (file_in count) found) (Err syntax) ≡ Ok file → AllCan file.general.attributes
     by None e = absurd (err_ok e)
       where
         err_ok : Err syntax ≡ Ok file → ⊥
         err_ok e = cc
-    by (Some m) e = subst (λ r. MatchResult r FileCan Any) e (file_can m)
+    by (Some m) e = subst (λ r. MatchResult r FileCan Any) e (file_can count m)

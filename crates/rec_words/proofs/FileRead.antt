@@ -1,14 +1,15 @@
 -- What is read of a file's setup is what its text says.
 -- idea: each key that was read is set to what was read, or isn't set; each table of a list was read behind those before it,
 -- so no ID is one of an earlier table.
-use Rattle.std.proofs.Common.{ℕ, ℤ, ◌≡◌, ◌≢◌, ◌≤◌, inl, inr, Bool, true, false, true≢false, ◌==◌, ◌&&◌, List, [], ◌∷◌, ◌++◌, length, map, All}
+use Rattle.std.proofs.Common.{ℕ, ℤ, ◌≡◌, ◌≢◌, ◌≤◌, suc, inl, inr, Bool, true, false, true≢false, ◌==◌, ◌&&◌, List, [], ◌∷◌, ◌++◌, length, map, All}
 use Rattle.std.proofs.Common.{Option, None, Some, option_map, option_and_then, Ok, Err, MatchResult, refl, sym, ap, subst, ◌∙◌, arith}
 use Rattle.std.proofs.Common.{codes, eq-eqb, if◌then◌else◌}
-use Rattle.std.specs.Prelude.{pos, nat_le, nat_lt, unwrap_or, not}
+use Rattle.std.specs.Prelude.{pos, nat_le, nat_lt, unwrap_or, not, is_none}
 use Rattle.std.specs.List.{AllZip, list_any, list_all}
-use Rattle.std.proofs.lemmas.Bool.{leb-true, and_parts}
+use Rattle.std.proofs.lemmas.Bool.{leb-true, ltb-true, eqb-true, and_parts}
 use Rattle.std.proofs.lemmas.List.{append-nil, append_assoc, map-append}
 use Rattle.std.proofs.lemmas.List.Folds.{list_any_at}
+use Rattle.std.proofs.lemmas.Bool.Decides.{nat_tests}
 use Rattle.std.proofs.lemmas.Option.{none-some, cond_some}
 use Rattle.toml.specs.Data.{Data, string, integer, float, boolean, datetime, array, table as table_data, Items, no_items, item, Members, get_member}
 use Rattle.toml.specs.Parse.{parse_document}
@@ -16,22 +17,25 @@ use Rattle.toml.specs.View.{items_of}
 use Rattle.ch11_clock.specs.OriginText.{origin_said, SaysOrigin}
 use Rattle.ch11_clock.proofs.OriginRead.{origin_read}
 use Rattle.ch11_setup.specs.Attributes.{AttributeData, attribute_of, cut_at}
-use Rattle.rec_words.specs.Settings.{Fault, syntax, missing, value, only, number_in, text_in, required, number_or, tables_in}
-use Rattle.rec_words.specs.Settings.{most_of_8_bits, most_of_16_bits}
-use Rattle.rec_words.specs.Format.{AreDistinctIds}
+use Rattle.rec_words.specs.Settings.{Fault, syntax, missing, value, ◌>>=◌, only, number_in, text_in, required, number_or, tables_in}
+use Rattle.rec_words.specs.Settings.{most_of_8_bits, most_of_16_bits, most_of_63_bits}
+use Rattle.rec_words.specs.Format.{HasOnly, AreDistinctIds}
 use Rattle.rec_words.specs.SetupFile.{OriginData, ChannelSetupData, FileData, file_keys, origin_keys, setup_channel_keys, most_of_48_bits, most_origins}
 use Rattle.rec_words.specs.SetupFile.{text_or, truth_or, truth_in, tables_of, each_after, time_told_in, origin_in, enough_origins, noted_origins, single_origin}
 use Rattle.rec_words.specs.SetupFile.{origins_by, origins_in, new_id, setup_channel_in, setup_channels_of}
 use Rattle.rec_words.specs.SetupFile.{ahead_in, unknown_scale, in_utc, is_too_early, origin_unless}
-use Rattle.rec_words.specs.SetupFile.{setup_channels_in, attributes_in, file_in, setup_file}
+use Rattle.rec_words.specs.SetupFile.{setup_channels_in, attributes_in, setup_file}
+use Rattle.rec_words.specs.SetupFile.{RecordingData, is_place, may_follow, followed_at, after_in, recording_keys, recording_in, stands_alone}
+use Rattle.rec_words.specs.SetupFile.{recordings_of, general_in, file_by, file_in}
 use Rattle.rec_words.specs.SetupFormat.{IsText, IsTruth, SaysTime, IsNotedOrigin, AreOrigins, AreAdded, IsFileChannel, AreFileChannels}
 use Rattle.rec_words.specs.SetupFormat.{IsSaidOfUnknown, setup_ids, SaysAttribute, IsFile, IsFileOf}
+use Rattle.rec_words.specs.SetupFormat.{IsAfter, IsRecordingTable, MayFollow, AreRuns, AreRecordings, IsGeneral}
 use Rattle.rec_words.specs.SetupFile.{is_attribute_byte, attribute_with, attribute_said, attributes_said, all_attributes, attributes_of}
 use Rattle.rec_words.specs.ReservedNames.{is_reserved}
 use Rattle.rec_words.proofs.AddedRead.{said_is}
 use Rattle.rec_words.proofs.ReservedRead.{cut_parts}
 use Rattle.rec_words.proofs.FormatRead.{distinct_push}
-use Rattle.rec_words.proofs.KeysRead.{then_says, outcome, only_says, number_required, number_or_says}
+use Rattle.rec_words.proofs.KeysRead.{then_says, outcome, only_says, number_says, number_required, number_or_says}
 use Rattle.rec_words.proofs.ScalesRead.{ahead_says, scale_says}
 use Rattle.rec_words.proofs.SettingsRead.{any_of_map}
 
@@ -191,17 +195,17 @@ single_says : (d : Data) → MatchResult (single_origin d) (λ origins. (nanos :
 single_says d = then_says (λ origins. (nanos : ℤ) × SaysIt d nanos × (origins ≡ record { counter = 0; nanos = nanos } ∷ [])) (time_told_in (codes "origin") d) _
     (time_says (codes "origin") d) (λ nanos says. (nanos, says, refl)) (λ f _. tt)
 
-origins_say : (unknown : Option ℕ) (m : Members) → IsSaidOfUnknown m unknown → MatchResult (origins_in unknown m) (AreOrigins m) Whatever
-origins_say unknown m said = by (get_member (codes "origin") m) (get_member (codes "origins") m) refl refl
+origins_say : (unknown : Option ℕ) (m : Members) → MatchResult (origins_in unknown m) (AreOrigins unknown m) Whatever
+origins_say unknown m = by (get_member (codes "origin") m) (get_member (codes "origins") m) refl refl
   where
     by : (one many : Option Data) → get_member (codes "origin") m ≡ one → get_member (codes "origins") m ≡ many
-        → MatchResult (origins_by unknown one many) (AreOrigins m) Whatever
+        → MatchResult (origins_by unknown one many) (AreOrigins unknown m) Whatever
     by None None is are = tt
     by (Some d) None is are = outcome (single_origin d)
         (λ origins h. inl (h.0, (h.1.0, is ∙ ap (λ x. Some x) h.1.1, h.1.2), are, h.2)) (λ f _. tt) (single_says d)
     by None (Some d) is are = outcome (noted_origins unknown d)
-        (λ origins h. inr (unknown, h.0, said, is, (h.1.0, are ∙ ap (λ x. Some x) h.1.1, h.1.2), h.2, h.3, h.4)) (λ f _. tt) (noted_say unknown d)
-    by (Some one) (Some many) is are = then_says (AreOrigins m) (single_origin one) _ (single_says one) (λ origins h. tt) (λ f _. tt)
+        (λ origins h. inr (h.0, is, (h.1.0, are ∙ ap (λ x. Some x) h.1.1, h.1.2), h.2, h.3, h.4)) (λ f _. tt) (noted_say unknown d)
+    by (Some one) (Some many) is are = then_says (AreOrigins unknown m) (single_origin one) _ (single_says one) (λ origins h. tt) (λ f _. tt)
 
 -- ---- attributes
 
@@ -332,36 +336,192 @@ channels_say m = by (get_member (codes "channel") m) refl
         (each_channel [] tables no_ids))
         (λ f _. tt)
 
+-- ---- recordings
+
+abbrev After : Data → Option ℕ → Type 0
+After d after = (place : ℕ) × (d ≡ integer (pos place)) × (after ≡ Some place)
+
+not_place : (place : ℕ) (after : Option ℕ) → after ≡ Some place → is_place place after ≡ true
+not_place place after is = rw is (let same : (place == place) ≡ true = grind (arith, nat_tests) in same)
+
+none_at : (before : List RecordingData) (place : ℕ) → list_any (λ earlier. is_place place earlier.after) before ≡ false
+    → All (λ (earlier : RecordingData). earlier.after ≢ Some place) before
+none_at before place none k x within same =
+    true≢false (sym (list_any_at (λ (earlier : RecordingData). is_place place earlier.after) before k x within (not_place place _ same)) ∙ none)
+
+not_true : (b : Bool) → not b ≡ true → b ≡ false
+not_true false e = refl
+not_true true e = absurd (true≢false (sym e))
+
+followed_says : (before : List RecordingData) (d : Data)
+    → MatchResult (followed_at before d) (λ after. After d after × MayFollow before after) Whatever
+followed_says before d =
+    then_says (λ after. After d after × MayFollow before after) (number_in 0 most_of_63_bits (codes "after") d) _
+    (number_says 0 most_of_63_bits (codes "after") d) (λ place n. by place n.0 (may_follow before place) refl) (λ f _. tt)
+  where
+    by : (place : ℕ) → d ≡ integer (pos place) → (is : Bool) → may_follow before place ≡ is
+        → MatchResult (if is then Ok (Some place) else Err (value (codes "after"))) (λ after. After d after × MayFollow before after) Whatever
+    by place here false is = tt
+    by place here true is =
+        let both = and_parts (nat_lt place (length before)) (not (list_any (λ (earlier : RecordingData). is_place place earlier.after) before)) is in
+        ((place, here, refl), (ltb-true place (length before) both.0, none_at before place (not_true _ both.1)))
+
+after_says : (before : List RecordingData) (m : Members)
+    → MatchResult (after_in before m) (λ after. IsAfter m after × MayFollow before after) Whatever
+after_says before m = by (get_member (codes "after") m) refl
+  where
+    by : (found : Option Data) → get_member (codes "after") m ≡ found
+        → MatchResult (unwrap_or (option_map (followed_at before) found) (Ok None)) (λ after. IsAfter m after × MayFollow before after) Whatever
+    by None is = (is, tt)
+    by (Some d) is = outcome (followed_at before d)
+        (λ after h. (subst (IsAfter m) (sym h.0.2) (is ∙ ap (λ x. Some x) h.0.1), h.1)) (λ f _. tt) (followed_says before d)
+
+recording_says : (unknown : Option ℕ) (before : List RecordingData) (m : Members)
+    → MatchResult (recording_in unknown before m) (λ r. IsRecordingTable unknown m r × MayFollow before r.after) Whatever
+recording_says unknown before m =
+    then_says (λ r. IsRecordingTable unknown m r × MayFollow before r.after) (only recording_keys m) _ (only_says recording_keys m) (λ ms has.
+    then_says (λ r. IsRecordingTable unknown m r × MayFollow before r.after) (origins_in unknown m) _ (origins_say unknown m) (λ origins o.
+    then_says (λ r. IsRecordingTable unknown m r × MayFollow before r.after) (after_in before m) _ (after_says before m) (λ after a.
+    then_says (λ r. IsRecordingTable unknown m r × MayFollow before r.after) (setup_channels_in m) _ (channels_say m) (λ channels c. (
+      record { only = has; origins_are = o; after_is = a.0; channels_are = c.0; distinct = c.1 },
+      a.1,
+    ))
+    (λ f _. tt)) (λ f _. tt)) (λ f _. tt)) (λ f _. tt)
+
+-- what follows these is behind each of those: each of them may follow what stands before it
+abbrev RunsBehind : List RecordingData → List RecordingData → Type 0
+RunsBehind before [] = Unit {0}
+RunsBehind before (recording ∷ rest) = MayFollow before recording.after × RunsBehind (before ++ recording ∷ []) rest
+
+runs_at : (front before : List RecordingData) (recording : RecordingData) (behind : List RecordingData)
+    → RunsBehind front (before ++ recording ∷ behind) → MayFollow (front ++ before) recording.after
+runs_at front [] recording behind runs = subst (λ l. MayFollow l recording.after) (sym (append-nil front)) runs.0
+runs_at front (first ∷ before) recording behind runs =
+    subst (λ l. MayFollow l recording.after) (append_assoc front (first ∷ []) before) (runs_at (front ++ first ∷ []) before recording behind runs.1)
+
+are_runs : (recordings : List RecordingData) → RunsBehind [] recordings → AreRuns recordings
+are_runs recordings runs before recording behind is = runs_at [] before recording behind (subst (RunsBehind []) is runs)
+
+abbrev RecordingsBehind : (unknown : Option ℕ) → List RecordingData → List Members → List RecordingData → Type 0
+RecordingsBehind unknown before tables all =
+    (rest : List RecordingData) × (all ≡ before ++ rest) × AllZip (IsRecordingTable unknown) tables rest × RunsBehind before rest
+    × (length rest ≡ length tables)
+
+each_recording : (unknown : Option ℕ) (before : List RecordingData) (tables : List Members)
+    → MatchResult (each_after (recording_in unknown) before tables) (RecordingsBehind unknown before tables) Whatever
+each_recording unknown before [] = ([], sym (append-nil before), tt, tt, refl)
+each_recording unknown before (m ∷ tables) =
+    then_says (RecordingsBehind unknown before (m ∷ tables)) (recording_in unknown before m) _ (recording_says unknown before m) (λ one is.
+    outcome (each_after (recording_in unknown) (before ++ one ∷ []) tables)
+    (λ all later. (one ∷ later.0, later.1 ∙ append_assoc before (one ∷ []) later.0, (is.0, later.2), (is.1, later.3), ap suc later.4))
+    (λ f _. tt) (each_recording unknown (before ++ one ∷ []) tables))
+    (λ f _. tt)
+
+abbrev Unset : Members → List ℕ → Type 0
+Unset m key = get_member key m ≡ None
+
+unset_of : (m : Members) (key : List ℕ) → is_none (get_member key m) ≡ true → Unset m key
+unset_of m key e = by (get_member key m) e
+  where
+    by : (found : Option Data) → is_none found ≡ true → found ≡ None
+    by None e = refl
+    by (Some d) e = absurd (true≢false (sym e))
+
+recordings_say : (count : ℕ) (unknown : Option ℕ) (m : Members) (d : Data) → get_member (codes "recording") m ≡ Some d
+    → MatchResult (recordings_of count unknown m d) (λ rs. AreRecordings unknown m rs × (length rs ≡ count)) Whatever
+recordings_say count unknown m d is =
+    then_says (λ rs. AreRecordings unknown m rs × (length rs ≡ count)) (tables_of (codes "recording") d) _ (tables_say (codes "recording") d) (λ tables are.
+    by tables are (length tables == count && stands_alone m) refl) (λ f _. tt)
+  where
+    by : (tables : List Members) → AreIn d tables → (fits : Bool) → (length tables == count && stands_alone m) ≡ fits
+        → MatchResult ((if fits then Ok tables else Err (value (codes "recording"))) >>= (λ _. each_after (recording_in unknown) [] tables))
+        (λ rs. AreRecordings unknown m rs × (length rs ≡ count)) Whatever
+    by tables are false fits = tt
+    by tables are true fits =
+        let both = and_parts (length tables == count) (stands_alone m) fits in
+        let many = and_parts (is_none (get_member (codes "origin") m)) _ both.1 in
+        let more = and_parts (is_none (get_member (codes "origins") m)) _ many.1 in
+        let last = and_parts (is_none (get_member (codes "channel") m)) true more.1 in
+        outcome (each_after (recording_in unknown) [] tables)
+        (λ all later. (
+          record {
+            tables = tables;
+            tables_are = (are.0, is ∙ ap (λ x. Some x) are.1, are.2);
+            no_origin = unset_of m (codes "origin") many.0;
+            no_origins = unset_of m (codes "origins") more.0;
+            no_channel = unset_of m (codes "channel") last.0;
+            said = subst (AllZip (IsRecordingTable unknown) tables) (sym later.1) later.2;
+            runs = are_runs all (subst (RunsBehind []) (sym later.1) later.3);
+          },
+          ap length later.1 ∙ later.4 ∙ eqb-true (length tables) count both.0,
+        ))
+        (λ f _. tt) (each_recording unknown [] tables)
+
 -- ---- the document
 
-file_says : (m : Members) → MatchResult (file_in m) (IsFile m) Whatever
-file_says m =
-    then_says (IsFile m) (only file_keys m) _ (only_says file_keys m) (λ ms has.
-    then_says (IsFile m) (unknown_scale m) _ (scale_says m) (λ unknown u.
-    then_says (IsFile m) (origins_in unknown m) _ (origins_say unknown m u) (λ origins o.
-    then_says (IsFile m) (text_or (codes "bpfrec") (codes "host") m) _ (text_or_says (codes "host") (codes "bpfrec") m) (λ host h.
-    then_says (IsFile m) (text_or (codes "bpfrec") (codes "program") m) _ (text_or_says (codes "program") (codes "bpfrec") m) (λ program p.
-    then_says (IsFile m) (truth_or false (codes "external") m) _ (truth_or_says (codes "external") false m) (λ is_external e.
-    then_says (IsFile m) (attributes_in m) _ (attributes_by m (get_member (codes "attributes") m) refl) (λ attributes a.
-    then_says (IsFile m) (setup_channels_in m) _ (channels_say m) (λ channels c.
-    record {
-      only = has;
-      origins_are = o;
-      host_is = h;
-      program_is = p;
-      external_is = e;
-      attributes_are = a;
-      channels_are = c.0;
-      distinct = c.1;
-    })
-    (λ f _. tt)) (λ f _. tt)) (λ f _. tt)) (λ f _. tt)) (λ f _. tt)) (λ f _. tt)) (λ f _. tt)) (λ f _. tt)
+general_says : (m : Members) → MatchResult (general_in m) (IsGeneral m) Whatever
+general_says m =
+    then_says (IsGeneral m) (text_or (codes "bpfrec") (codes "host") m) _ (text_or_says (codes "host") (codes "bpfrec") m) (λ host h.
+    then_says (IsGeneral m) (text_or (codes "bpfrec") (codes "program") m) _ (text_or_says (codes "program") (codes "bpfrec") m) (λ program p.
+    then_says (IsGeneral m) (truth_or false (codes "external") m) _ (truth_or_says (codes "external") false m) (λ is_external e.
+    then_says (IsGeneral m) (attributes_in m) _ (attributes_by m (get_member (codes "attributes") m) refl) (λ attributes a.
+    record { host_is = h; program_is = p; external_is = e; attributes_are = a })
+    (λ f _. tt)) (λ f _. tt)) (λ f _. tt)) (λ f _. tt)
 
-pub file_is : (text : List ℕ) (file : FileData) → setup_file text ≡ Ok file → IsFileOf text file
-file_is text file is = by (parse_document text) refl is
+one_says : (count : ℕ) → MatchResult (if count == 1 then Ok count else Err (missing (codes "recording"))) (λ _. count ≡ 1) Whatever
+one_says count = by (count == 1) refl
+  where
+    by : (is : Bool) → (count == 1) ≡ is → MatchResult (if is then Ok count else Err (missing (codes "recording"))) (λ _. count ≡ 1) Whatever
+    by false e = tt
+    by true e = eqb-true count 1 e
+
+module _ (count : ℕ) (m : Members) (has : HasOnly file_keys m) (unknown : Option ℕ) (said : IsSaidOfUnknown m unknown) where
+  by_recordings : (found : Option Data) → get_member (codes "recording") m ≡ found → MatchResult (file_by count unknown m found) (IsFile count m) Whatever
+  by_recordings None is =
+      then_says (IsFile count m) (if count == 1 then Ok count else Err (missing (codes "recording"))) _ (one_says count) (λ n one.
+      then_says (IsFile count m) (origins_in unknown m) _ (origins_say unknown m) (λ origins o.
+      then_says (IsFile count m) (general_in m) _ (general_says m) (λ general g.
+      then_says (IsFile count m) (setup_channels_in m) _ (channels_say m) (λ channels c.
+      record {
+        only = has;
+        unknown = unknown;
+        unknown_is = said;
+        as_many = sym one;
+        recordings_are = inl (
+          record { origins = origins; after = None; channels = channels },
+          record { unset = is; origins_are = o; after_is = refl; channels_are = c.0; distinct = c.1 },
+          refl,
+        );
+        general_is = g;
+      })
+      (λ f _. tt)) (λ f _. tt)) (λ f _. tt)) (λ f _. tt)
+  by_recordings (Some d) is =
+      then_says (IsFile count m) (recordings_of count unknown m d) _ (recordings_say count unknown m d is) (λ recordings r.
+      then_says (IsFile count m) (general_in m) _ (general_says m) (λ general g.
+      record {
+        only = has;
+        unknown = unknown;
+        unknown_is = said;
+        as_many = r.1;
+        recordings_are = inr r.0;
+        general_is = g;
+      })
+      (λ f _. tt)) (λ f _. tt)
+
+file_says : (count : ℕ) (m : Members) → MatchResult (file_in count m) (IsFile count m) Whatever
+file_says count m =
+    then_says (IsFile count m) (only file_keys m) _ (only_says file_keys m) (λ ms has.
+    then_says (IsFile count m) (unknown_scale m) _ (scale_says m) (λ unknown u.
+    by_recordings count m has unknown u (get_member (codes "recording") m) refl)
+    (λ f _. tt)) (λ f _. tt)
+
+pub file_is : (count : ℕ) (text : List ℕ) (file : FileData) → setup_file count text ≡ Ok file → IsFileOf count text file
+file_is count text file is = by (parse_document text) refl is
   where
     no_file : Err syntax ≡ Ok file → ⊥
     no_file e = cc
 
-    by : (found : Option Members) → parse_document text ≡ found → unwrap_or (option_map file_in found) (Err syntax) ≡ Ok file → IsFileOf text file
+    by : (found : Option Members) → parse_document text ≡ found → unwrap_or (option_map (file_in count) found) (Err syntax) ≡ Ok file
+        → IsFileOf count text file
     by None same e = absurd (no_file e)
-    by (Some m) same e = (m, same, subst (λ r. MatchResult r (IsFile m) Whatever) e (file_says m))
+    by (Some m) same e = (m, same, subst (λ r. MatchResult r (IsFile count m) Whatever) e (file_says count m))

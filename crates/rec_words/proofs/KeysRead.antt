@@ -96,7 +96,7 @@ only_ok known members has = ap (λ found. unwrap_or (option_map (λ key. Err (un
 -- ---- values
 
 -- a value is what is asked, or of another kind
-abbrev ValueSays : {A : Type 0} → KeyKind → List ℕ → Data → (Data → A → Type 0) → Result A Fault → Type 0
+abbrev pub ValueSays : {A : Type 0} → KeyKind → List ℕ → Data → (Data → A → Type 0) → Result A Fault → Type 0
 ValueSays kind name found Has r = MatchResult r (Has found) (λ f. (¬ IsOfKind kind found) × (f ≡ value name))
 
 abbrev pub HasNumber : (least most : ℕ) → Data → ℕ → Type 0
@@ -121,7 +121,7 @@ in_range least most n name false e = (
   refl,
 )
 
-number_says : (least most : ℕ) (name : List ℕ) (found : Data)
+pub number_says : (least most : ℕ) (name : List ℕ) (found : Data)
     → ValueSays (of_number least most) name found (HasNumber least most) (number_in least most name found)
 number_says least most name (integer (pos n)) = in_range least most n name (nat_le least n && nat_le n most) refl
 number_says least most name (integer (negsuc n)) = (λ (k, same, low, high). cc, refl)

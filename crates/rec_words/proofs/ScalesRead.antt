@@ -1,12 +1,12 @@
 -- What is read of a table's scale is what its text says.
-use Rattle.std.proofs.Common.{ℕ, ℤ, ◌*◌, ◌≡◌, ◌≢◌, ◌⊎◌, inl, inr, Bool, true, false, Option, None, Some, option_map, Ok, Err, MatchResult}
+use Rattle.std.proofs.Common.{ℕ, ◌≡◌, ◌⊎◌, inl, inr, Bool, true, false, Option, None, Some, option_map, Ok, Err, MatchResult}
 use Rattle.std.proofs.Common.{List, refl, sym, ap, subst, ◌∙◌, codes, if◌then◌else◌}
-use Rattle.std.specs.Prelude.{pos, bytes_eq, unwrap_or}
+use Rattle.std.specs.Prelude.{bytes_eq, unwrap_or}
 use Rattle.std.proofs.lemmas.Option.{none-some}
 use Rattle.std.proofs.lemmas.Slice.Eq.{bytes_eq-Decides}
 use Rattle.toml.specs.Data.{Data, string, integer, float, boolean, datetime, array, table as table_data, Members, get_member}
 use Rattle.rec_words.specs.Settings.{Fault, value, ◌>>=◌, most_of_8_bits}
-use Rattle.rec_words.specs.SetupFile.{OriginData, tai_offset_in, without_offset, ahead_of, ahead_told_in, ahead_in, unknown_scale, in_utc, origin_unless}
+use Rattle.rec_words.specs.SetupFile.{tai_offset_in, without_offset, ahead_of, ahead_told_in, ahead_in, unknown_scale}
 use Rattle.rec_words.specs.SetupFormat.{IsUnset, IsSetToText, IsAhead, IsSaidOfUnknown}
 use Rattle.rec_words.proofs.KeysRead.{then_says, outcome, number_required}
 

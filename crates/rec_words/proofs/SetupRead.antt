@@ -1,7 +1,7 @@
 -- Loops over the tables and the texts of a file's setup; texts that are cut in two.
 -- idea: what is left of a list gives the rest of what the whole list gives, so each step moves one element from what is left
 -- to what was read.
-use Rattle.std.proofs.Common.{ℕ, ◌≡◌, ◌≢◌, ◌<◌, ◌≤◌, ◌+◌, suc, true, false, ◌==◌, List, [], ◌∷◌, ◌++◌, map}
+use Rattle.std.proofs.Common.{ℕ, ◌≡◌, ◌≢◌, ◌⊎◌, inl, inr, Bool, ◌<◌, ◌≤◌, ◌+◌, suc, true, false, ◌==◌, List, [], ◌∷◌, ◌++◌, map}
 use Rattle.std.proofs.Common.{drop, length, get_or, refl, sym, ap, ◌∙◌, Option, None, Some, option_map, option_and_then, Bor, arith}
 use Rattle.std.proofs.Common.{Result, Ok, Err, MatchOption, codes, rules}
 use Rattle.std.proofs.lemmas.List.{append_assoc, drop_all, length_push, map-append}
@@ -16,7 +16,7 @@ use Rattle.ch11_setup.specs.Attributes.{AttributeData, cut_at}
 use Rattle.rec_words.specs.declared.setup_file.AddedAttribute.{AddedAttribute}
 use Rattle.rec_words.specs.Settings.{Fault, value, ◌>>=◌, tables_in}
 use Rattle.rec_words.specs.SetupFile.{each_after, tables_of, most_origins, enough_origins, origin_in, noted_origins}
-use Rattle.rec_words.specs.SetupFile.{attributes_said, attribute_said}
+use Rattle.rec_words.specs.SetupFile.{attributes_said, attribute_said, recordings_of, recording_in, stands_alone}
 use Rattle.rec_words.specs.SetupViews.{attribute_data}
 use Rattle.rec_words.proofs.SettingsRead.{array_of, table_here}
 
@@ -90,6 +90,27 @@ origins_of_tables unknown d tables n of e some few =
   where
     enough : (tables : List Members) (n : ℕ) → length tables ≡ n → 0 < n → n ≤ most_origins → enough_origins tables ≡ Ok tables
     enough tables n e some few = rw e (search rules)
+
+-- ---- recordings
+
+module _ (count : ℕ) (unknown : Option ℕ) (m : Members) (d : Data) (tables : List Members) (n : ℕ) (of : tables_of (codes "recording") d ≡ Ok tables)
+    (as_many : length tables ≡ n) where
+  -- there are no recordings in another number of tables, and none in tables that don't stand alone
+  pub not_recordings : (n ≢ count) ⊎ (stands_alone m ≡ false) → recordings_of count unknown m d ≡ Err (value (codes "recording"))
+  not_recordings (inl other) =
+      let not : (length tables == count) ≡ false = grind (arith, nat_tests, as_many, other) in
+      rw (of, not) refl
+  not_recordings (inr beside) = by (length tables == count) refl
+    where
+      by : (is : Bool) → (length tables == count) ≡ is → recordings_of count unknown m d ≡ Err (value (codes "recording"))
+      by true e = rw (of, e, beside) refl
+      by false e = rw (of, e) refl
+
+  -- else they are those of the tables
+  pub recordings_of_tables : n ≡ count → stands_alone m ≡ true → recordings_of count unknown m d ≡ each_after (recording_in unknown) [] tables
+  recordings_of_tables same alone =
+      let is : (length tables == count) ≡ true = grind (arith, nat_tests, as_many, same) in
+      rw (of, is, alone) refl
 
 -- ---- attributes
 

@@ -76,10 +76,10 @@ are_attributes (attribute ∷ attributes) can = (can.0.0, are_attributes attribu
 abbrev pub NamesSources : Type 0
 NamesSources = (setup : Setup) → NamesNoSource (given_attributes setup.attributes.now) → SaysSources setup (setup_attributes setup)
 
-module _ (named : NamesSources) (text : List ℕ) (file : FileData) (setup : Setup) (is : setup_file text ≡ Ok file)
-    (added : map given_attribute setup.attributes.now ≡ file.attributes) where
+module _ (named : NamesSources) (count : ℕ) (text : List ℕ) (file : FileData) (setup : Setup)
+    (is : setup_file count text ≡ Ok file) (added : map given_attribute setup.attributes.now ≡ file.general.attributes) where
   can : AllCan setup.attributes.now
-  can = subst (AllByRecursion CanBeAdded) (sym added) (added_can text file is)
+  can = subst (AllByRecursion CanBeAdded) (sym added) (added_can count text file is)
 
   pub given_are : AreAttributes (map given_attribute setup.attributes.now)
   given_are = are_attributes (map given_attribute setup.attributes.now) can

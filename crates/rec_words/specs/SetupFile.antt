@@ -1,13 +1,13 @@
 -- What the setup of a Chapter 11 file is: by the table of a TOML document, or the first fault in it.
 use Rattle.std.specs.Prelude.{ℕ, ◌*◌, ℤ, pos, negsuc, ◌-ℤ◌, Bool, false, ◌&&◌, ◌==◌, bytes_eq, nat_le, if◌then◌else◌, List, [], ◌∷◌, ◌++◌, length}
-use Rattle.std.specs.Prelude.{Option, None, Some, option_map, option_and_then, unwrap_or, Result, Ok, Err, codes, not, nat_lt}
+use Rattle.std.specs.Prelude.{Option, None, Some, option_map, option_and_then, unwrap_or, Result, Ok, Err, codes, not, nat_lt, is_none}
 use Rattle.std.specs.List.{list_any, list_all}
 use Rattle.toml.specs.Data.{Data, string, boolean, array, Items, no_items, item, Members, as_str, get_member}
 use Rattle.toml.specs.Parse.{parse_document}
 use Rattle.ch11_clock.specs.OriginText.{origin_said}
 use Rattle.ch11_setup.specs.Attributes.{AttributeData, attribute_of, cut_at, IsAttribute}
 use Rattle.rec_words.specs.Settings.{Fault, syntax, missing, value, ◌>>=◌, only, number_in, text_in, required, number_or}
-use Rattle.rec_words.specs.Settings.{tables_in, most_of_8_bits, most_of_16_bits}
+use Rattle.rec_words.specs.Settings.{tables_in, most_of_8_bits, most_of_16_bits, most_of_63_bits}
 use Rattle.rec_words.specs.ReservedNames.{is_reserved, IsReserved}
 
 -- an origin that was noted: the counter from which on it holds, and the time of counter 0 in
@@ -22,20 +22,33 @@ pub record ChannelSetupData : Type 0 where
   pub name : List ℕ
   pub net : ℕ
 
--- what is said of a file
-pub record FileData : Type 0 where
+-- what is said of a recording: its origins, the place of the earlier one that it follows in its run, if it follows
+-- one, and its channels
+pub record RecordingData : Type 0 where
   pub origins : List OriginData
+  pub after : Option ℕ
+  pub channels : List ChannelSetupData
+
+-- what is said of the whole file
+pub record GeneralData : Type 0 where
   pub host : List ℕ
   pub program : List ℕ
   pub is_external : Bool
   pub attributes : List AttributeData
-  pub channels : List ChannelSetupData
 
--- the keys of the document, those of an origin, and those of a channel
+-- what is said of a file and of the recordings that it is made of
+pub record FileData : Type 0 where
+  pub recordings : List RecordingData
+  pub general : GeneralData
+
+-- the keys of the document, those of a recording, those of an origin, and those of a channel
 abbrev pub file_keys : List (List ℕ)
 file_keys =
-    codes "scale" ∷ codes "tai_offset" ∷ codes "origin" ∷ codes "origins" ∷ codes "host"
-    ∷ codes "program" ∷ codes "external" ∷ codes "attributes" ∷ codes "channel" ∷ []
+    codes "scale" ∷ codes "tai_offset" ∷ codes "recording" ∷ codes "origin" ∷ codes "origins"
+    ∷ codes "host" ∷ codes "program" ∷ codes "external" ∷ codes "attributes" ∷ codes "channel" ∷ []
+
+abbrev pub recording_keys : List (List ℕ)
+recording_keys = codes "origin" ∷ codes "origins" ∷ codes "after" ∷ codes "channel" ∷ []
 
 abbrev pub origin_keys : List (List ℕ)
 origin_keys = codes "counter" ∷ codes "origin" ∷ codes "scale" ∷ codes "tai_offset" ∷ []
@@ -263,28 +276,93 @@ abbrev pub setup_channels_in : Members → Result (List ChannelSetupData) Fault
 setup_channels_in members =
     unwrap_or (option_map setup_channels_of (get_member (codes "channel") members)) (Ok [])
 
+-- ---- recordings
+
+-- it is this place
+abbrev pub is_place : (place : ℕ) → Option ℕ → Bool
+is_place place None = false
+is_place place (Some other) = other == place
+
+-- whether a recording may follow the one at a place: that is one of those before it, and none of them follows it
+abbrev pub may_follow : (before : List RecordingData) → (place : ℕ) → Bool
+may_follow before place =
+    nat_lt place (length before) && not (list_any (λ earlier. is_place place earlier.after) before)
+
+-- the place of a recording that may be followed
+abbrev pub followed_at : (before : List RecordingData) → Data → Result (Option ℕ) Fault
+followed_at before found = do
+  place ← number_in 0 most_of_63_bits (codes "after") found
+  if may_follow before place then Ok (Some place) else Err (value (codes "after"))
+
+-- the recording that another follows behind these, if it follows one
+abbrev pub after_in : (before : List RecordingData) → Members → Result (Option ℕ) Fault
+after_in before members =
+    unwrap_or (option_map (followed_at before) (get_member (codes "after") members)) (Ok None)
+
+-- the recording in a table, behind these
+abbrev pub recording_in :
+    (unknown : Option ℕ) → (before : List RecordingData) → Members → Result RecordingData Fault
+recording_in unknown before members = do
+  _ ← only recording_keys members
+  origins ← origins_in unknown members
+  after ← after_in before members
+  channels ← setup_channels_in members
+  Ok (record { origins = origins; after = after; channels = channels })
+
+-- whether a document says nothing of a recording beside its tables
+abbrev pub stands_alone : Members → Bool
+stands_alone members =
+    list_all (λ key. is_none (get_member key members))
+    (codes "origin" ∷ codes "origins" ∷ codes "channel" ∷ [])
+
+-- the recordings in a list of tables, one for each
+abbrev pub recordings_of :
+    (count : ℕ) → (unknown : Option ℕ) → Members → Data → Result (List RecordingData) Fault
+recordings_of count unknown members found = do
+  tables ← tables_of (codes "recording") found
+  _ ← if length tables == count && stands_alone members then Ok tables else Err (value (codes "recording"))
+  each_after (recording_in unknown) [] tables
+
 -- ---- the document
 
--- what is said in a table
-abbrev pub file_in : Members → Result FileData Fault
-file_in members = do
-  _ ← only file_keys members
-  unknown ← unknown_scale members
-  origins ← origins_in unknown members
+-- what is said of the whole file
+abbrev pub general_in : Members → Result GeneralData Fault
+general_in members = do
   host ← text_or (codes "bpfrec") (codes "host") members
   program ← text_or (codes "bpfrec") (codes "program") members
   is_external ← truth_or false (codes "external") members
   attributes ← attributes_in members
-  channels ← setup_channels_in members
   Ok (record {
-    origins = origins;
     host = host;
     program = program;
     is_external = is_external;
     attributes = attributes;
-    channels = channels;
   })
 
--- what a text says of a file, or the text's first fault
-abbrev pub setup_file : List ℕ → Result FileData Fault
-setup_file text = unwrap_or (option_map file_in (parse_document text)) (Err syntax)
+-- what is said of a file of so many recordings, by what `recording` has; a single recording needs no table
+abbrev pub file_by :
+    (count : ℕ) → (unknown : Option ℕ) → Members → (recording : Option Data) → Result FileData Fault
+file_by count unknown members None = do
+  _ ← if count == 1 then Ok count else Err (missing (codes "recording"))
+  origins ← origins_in unknown members
+  general ← general_in members
+  channels ← setup_channels_in members
+  Ok (record {
+    recordings = record { origins = origins; after = None; channels = channels } ∷ [];
+    general = general;
+  })
+file_by count unknown members (Some found) = do
+  recordings ← recordings_of count unknown members found
+  general ← general_in members
+  Ok (record { recordings = recordings; general = general })
+
+-- what is said in a table
+abbrev pub file_in : (count : ℕ) → Members → Result FileData Fault
+file_in count members = do
+  _ ← only file_keys members
+  unknown ← unknown_scale members
+  file_by count unknown members (get_member (codes "recording") members)
+
+-- what a text says of a file of so many recordings, or the text's first fault
+abbrev pub setup_file : (count : ℕ) → List ℕ → Result FileData Fault
+setup_file count text = unwrap_or (option_map (file_in count) (parse_document text)) (Err syntax)

@@ -1,5 +1,5 @@
 -- The setup of a Chapter 11 file in its own words: what a text that has no fault says of a file.
-use Rattle.std.specs.Prelude.{ℕ, ◌*◌, ℤ, pos, ◌-ℤ◌, Bool, false, ◌≡◌, ◌≢◌, ◌≤◌, Option, ◌⊎◌, List, [], ◌∷◌, ◌++◌, length, map, None, Some, codes}
+use Rattle.std.specs.Prelude.{ℕ, ◌*◌, ℤ, pos, ◌-ℤ◌, Bool, false, ◌≡◌, ◌≢◌, ◌<◌, ◌≤◌, Option, ◌⊎◌, List, [], ◌∷◌, ◌++◌, length, map, All, None, Some, codes}
 use Rattle.std.specs.List.{AllZip}
 use Rattle.toml.specs.Data.{string, integer, boolean, array, Items, Members, get_member}
 use Rattle.toml.specs.Parse.{parse_document}
@@ -8,7 +8,8 @@ use Rattle.ch11_clock.specs.OriginText.{SaysOrigin}
 use Rattle.ch11_setup.specs.Attributes.{AttributeData}
 use Rattle.rec_words.specs.Settings.{tables_in, most_of_8_bits, most_of_16_bits}
 use Rattle.rec_words.specs.Format.{HasOnly, IsNumber, AreDistinctIds}
-use Rattle.rec_words.specs.SetupFile.{OriginData, ChannelSetupData, FileData, file_keys, origin_keys, setup_channel_keys}
+use Rattle.rec_words.specs.SetupFile.{OriginData, ChannelSetupData, RecordingData, GeneralData, FileData}
+use Rattle.rec_words.specs.SetupFile.{file_keys, recording_keys, origin_keys, setup_channel_keys}
 use Rattle.rec_words.specs.SetupFile.{most_of_48_bits, most_origins, CanBeAdded}
 
 -- ---- keys
@@ -75,12 +76,11 @@ pub record IsNotedOrigin (unknown : Option ℕ) (members : Members) (origin : Or
   pub in_utc : origin.nanos ≡ told -ℤ pos (ahead * 1_000_000_000)
 
 -- one origin, from counter 0 on, in UTC; or those that were noted, in order
-abbrev pub AreOrigins : Members → List OriginData → Type 0
-AreOrigins members origins =
+abbrev pub AreOrigins : (unknown : Option ℕ) → Members → List OriginData → Type 0
+AreOrigins unknown members origins =
     ((nanos : ℤ) × SaysTime members nanos × (get_member (codes "origins") members ≡ None)
     × (origins ≡ record { counter = 0; nanos = nanos } ∷ []))
-    ⊎ ((unknown : Option ℕ) × (tables : List Members) × IsSaidOfUnknown members unknown
-    × (get_member (codes "origin") members ≡ None)
+    ⊎ ((tables : List Members) × (get_member (codes "origin") members ≡ None)
     × IsSetToTables members (codes "origins") tables
     × (1 ≤ length tables) × (length tables ≤ most_origins)
     × AllZip (IsNotedOrigin unknown) tables origins)
@@ -118,18 +118,73 @@ AreFileChannels members channels =
 abbrev pub setup_ids : List ChannelSetupData → List ℕ
 setup_ids channels = map (λ channel. channel.id) channels
 
--- this is said of a file in a document's table
-pub record IsFile (members : Members) (file : FileData) : Type 0 where
-  pub only : HasOnly file_keys members
-  pub origins_are : AreOrigins members file.origins
-  pub host_is : IsText members (codes "host") (codes "bpfrec") file.host
-  pub program_is : IsText members (codes "program") (codes "bpfrec") file.program
-  pub external_is : IsTruth members (codes "external") false file.is_external
-  pub attributes_are : AreAdded members file.attributes
-  pub channels_are : AreFileChannels members file.channels
-  pub distinct : AreDistinctIds (setup_ids file.channels)
+-- ---- recordings
 
--- the text is a document that says this of a file
-abbrev pub IsFileOf : List ℕ → FileData → Type 0
-IsFileOf text file =
-    (members : Members) × (parse_document text ≡ Some members) × IsFile members file
+-- `after` is set to this place, or isn't set
+abbrev pub IsAfter : Members → Option ℕ → Type 0
+IsAfter members None = IsUnset members (codes "after")
+IsAfter members (Some place) = get_member (codes "after") members ≡ Some (integer (pos place))
+
+-- this is said of a recording in its table
+pub record IsRecordingTable (unknown : Option ℕ) (members : Members) (recording : RecordingData) : Type 0 where
+  pub only : HasOnly recording_keys members
+  pub origins_are : AreOrigins unknown members recording.origins
+  pub after_is : IsAfter members recording.after
+  pub channels_are : AreFileChannels members recording.channels
+  pub distinct : AreDistinctIds (setup_ids recording.channels)
+
+-- a recording that follows another does so behind these: that is one of them, and none of them follows it
+abbrev pub MayFollow : (before : List RecordingData) → (after : Option ℕ) → Type 0
+MayFollow before None = Unit {0}
+MayFollow before (Some place) =
+    (place < length before) × All (λ (earlier : RecordingData). earlier.after ≢ Some place) before
+
+-- each recording follows an earlier one or none, and no two follow the same: they are runs
+abbrev pub AreRuns : List RecordingData → Type 0
+AreRuns recordings =
+    (before : List RecordingData) (recording : RecordingData) (behind : List RecordingData)
+    → recordings ≡ before ++ recording ∷ behind → MayFollow before recording.after
+
+-- it is what a document without tables of recordings says of its only one
+pub record IsOnlyRecording (unknown : Option ℕ) (members : Members) (recording : RecordingData) : Type 0 where
+  pub unset : IsUnset members (codes "recording")
+  pub origins_are : AreOrigins unknown members recording.origins
+  pub after_is : recording.after ≡ None
+  pub channels_are : AreFileChannels members recording.channels
+  pub distinct : AreDistinctIds (setup_ids recording.channels)
+
+-- they are what a document says of recordings in a table for each, and it says nothing else of one
+pub record AreRecordings (unknown : Option ℕ) (members : Members) (recordings : List RecordingData) : Type 0 where
+  pub tables : List Members
+  pub tables_are : IsSetToTables members (codes "recording") tables
+  pub no_origin : IsUnset members (codes "origin")
+  pub no_origins : IsUnset members (codes "origins")
+  pub no_channel : IsUnset members (codes "channel")
+  pub said : AllZip (IsRecordingTable unknown) tables recordings
+  pub runs : AreRuns recordings
+
+-- ---- the document
+
+-- this is said of the whole file in a document's table
+pub record IsGeneral (members : Members) (general : GeneralData) : Type 0 where
+  pub host_is : IsText members (codes "host") (codes "bpfrec") general.host
+  pub program_is : IsText members (codes "program") (codes "bpfrec") general.program
+  pub external_is : IsTruth members (codes "external") false general.is_external
+  pub attributes_are : AreAdded members general.attributes
+
+-- this is said of a file of so many recordings in a document's table
+pub record IsFile (count : ℕ) (members : Members) (file : FileData) : Type 0 where
+  pub only : HasOnly file_keys members
+  pub unknown : Option ℕ
+  pub unknown_is : IsSaidOfUnknown members unknown
+  pub as_many : length file.recordings ≡ count
+  pub recordings_are :
+      ((recording : RecordingData) × IsOnlyRecording unknown members recording
+      × (file.recordings ≡ recording ∷ []))
+      ⊎ AreRecordings unknown members file.recordings
+  pub general_is : IsGeneral members file.general
+
+-- the text is a document that says this of a file of so many recordings
+abbrev pub IsFileOf : (count : ℕ) → List ℕ → FileData → Type 0
+IsFileOf count text file =
+    (members : Members) × (parse_document text ≡ Some members) × IsFile count members file

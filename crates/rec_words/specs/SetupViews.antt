@@ -7,10 +7,12 @@ use Rattle.rec_words.specs.declared.keys.fault.KeyFault.TheVariants.{Unknown as 
 use Rattle.rec_words.specs.declared.setup_file.FileSettings.{FileSettings}
 use Rattle.rec_words.specs.declared.setup_file.AddedAttribute.{AddedAttribute}
 use Rattle.rec_words.specs.declared.setup_file.ChannelSetup.{ChannelSetup}
+use Rattle.rec_words.specs.declared.setup_file.GeneralSettings.{GeneralSettings}
+use Rattle.rec_words.specs.declared.setup_file.RecordingSettings.{RecordingSettings}
 use Rattle.rec_words.specs.declared.setup_file.fault.SetupFault.{SetupFault}
 use Rattle.rec_words.specs.declared.setup_file.fault.SetupFault.TheVariants.{Syntax, Unknown, Missing, Value, Memory}
 use Rattle.rec_words.specs.Settings.{Fault, syntax, unknown, missing, value}
-use Rattle.rec_words.specs.SetupFile.{OriginData, ChannelSetupData, FileData}
+use Rattle.rec_words.specs.SetupFile.{OriginData, ChannelSetupData, RecordingData, GeneralData, FileData}
 
 abbrev pub origin_data : Origin → OriginData
 origin_data origin = record { counter = origin.counter; nanos = origin.nanos }
@@ -23,15 +25,28 @@ abbrev pub setup_channel_data : ChannelSetup → ChannelSetupData
 setup_channel_data channel =
     record { id = channel.id; name = string_bytes channel.name; net = channel.net }
 
+abbrev pub recording_data : RecordingSettings → RecordingData
+recording_data recording =
+    record {
+      origins = map origin_data recording.origins.items;
+      after = recording.after;
+      channels = map setup_channel_data recording.channels.items;
+    }
+
+abbrev pub general_data : GeneralSettings → GeneralData
+general_data general =
+    record {
+      host = string_bytes general.host;
+      program = string_bytes general.program;
+      is_external = general.is_external;
+      attributes = map attribute_data general.attributes.items;
+    }
+
 abbrev pub file_data : FileSettings → FileData
 file_data setup =
     record {
-      origins = map origin_data setup.origins.items;
-      host = string_bytes setup.host;
-      program = string_bytes setup.program;
-      is_external = setup.is_external;
-      attributes = map attribute_data setup.attributes.items;
-      channels = map setup_channel_data setup.channels.items;
+      recordings = map recording_data setup.recordings.items;
+      general = general_data setup.general;
     }
 
 -- the fault is the one that the definition has; out of memory may be at any text

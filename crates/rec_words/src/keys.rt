@@ -127,7 +127,12 @@ pub(crate) fn number_or(
 }
 
 /// A whole number, `least` to `most`.
-fn number_in(value: &Value, key: &'static str, least: u64, most: u64) -> Result<u64, KeyFault>
+pub(crate) fn number_in(
+    value: &Value,
+    key: &'static str,
+    least: u64,
+    most: u64,
+) -> Result<u64, KeyFault>
     ensures number { MatchResult result
         (λ n. number_in least most key.now (view value.now) ≡ Ok n)
         (KeyReports (number_in least most key.now (view value.now))) }

@@ -36,18 +36,20 @@ pub fn a_setup_record_writes_reserved_names()
 /// Law: what a file's setup adds are attributes, so that a reader of the setup record finds them,
 /// and none has a name that a setup record writes.
 pub fn added_attributes_are_attributes()
-    ensures { (text : List ℕ) (file : FileData) → setup_file text ≡ Ok file
-        → AllByRecursion CanBeAdded file.attributes }
+    ensures { (count : ℕ) (text : List ℕ) (file : FileData) → setup_file count text ≡ Ok file
+        → AllByRecursion CanBeAdded file.general.attributes }
 {}
 
 /// Law: a setup record that adds what a text says says exactly its channels: a reader finds the time channel and
 /// the channels that were passed, each with its number, its type and its names, and no others.
 pub fn a_setup_record_says_exactly_its_channels()
-    ensures given { (text : List ℕ) (file : FileData) (setup : Setup) → setup_file text ≡ Ok file
-        → map given_attribute setup.attributes.now ≡ file.attributes
+    ensures given { (count : ℕ) (text : List ℕ) (file : FileData) (setup : Setup)
+        → setup_file count text ≡ Ok file
+        → map given_attribute setup.attributes.now ≡ file.general.attributes
         → AreAttributes (map given_attribute setup.attributes.now) }
-    ensures sources { (text : List ℕ) (file : FileData) (setup : Setup) → setup_file text ≡ Ok file
-        → map given_attribute setup.attributes.now ≡ file.attributes
+    ensures sources { (count : ℕ) (text : List ℕ) (file : FileData) (setup : Setup)
+        → setup_file count text ≡ Ok file
+        → map given_attribute setup.attributes.now ≡ file.general.attributes
         → SaysSources setup (setup_attributes setup) }
 {
     a_setup_record_names_the_channels();
@@ -55,7 +57,9 @@ pub fn a_setup_record_says_exactly_its_channels()
 
 /// Law: where a text says something of a file, it is a document in which each key means something;
 /// what is said is what its keys are set to, or their defaults, each table says what it may, and no
-/// two channels have one ID.
+/// two channels of a recording have one ID. There are as many recordings as were asked for, each follows an earlier
+/// one or none, and no two follow the same.
 pub fn a_setup_is_what_its_text_says()
-    ensures { (text : List ℕ) (file : FileData) → setup_file text ≡ Ok file → IsFileOf text file }
+    ensures { (count : ℕ) (text : List ℕ) (file : FileData) → setup_file count text ≡ Ok file
+        → IsFileOf count text file }
 {}

@@ -16,5 +16,8 @@ pub use laws::{
     settings_are_those_of_the_format,
 };
 pub use settings::{ChannelSettings, Settings, SettingsFault, settings_of};
-pub use setup_file::{AddedAttribute, ChannelSetup, FileSettings, SetupFault, setup_of};
+pub use setup_file::{
+    AddedAttribute, ChannelSetup, FileSettings, GeneralSettings, RecordingSettings, SetupFault,
+    setup_of,
+};
 pub use words::{Words, WordsFault, words_of};

@@ -8,6 +8,7 @@ mod fault;
 mod origins;
 mod parts;
 mod reading;
+mod recordings;
 mod reserved;
 mod scales;
 
@@ -15,17 +16,36 @@ use ch11_clock::Origin;
 pub use fault::SetupFault;
 pub use reading::setup_of;
 
-/// What is said of a Chapter 11 file. The document's top has the keys `scale`, `tai_offset`, `origin` or `origins`,
-/// `host`, `program`, `external`, `attributes` and `channel`, and each table of `channel` the keys
-/// of [`ChannelSetup`].
+/// What is said of a Chapter 11 file. The document's top has the keys `scale` and `tai_offset`, which say what an
+/// unknown scale is; `recording`, a table for each recording; and those of [`GeneralSettings`]. For a single
+/// recording its keys `origin`, `origins` and `channel` may stand at the top, and `recording` isn't set.
 #[derive(Drop)]
 pub struct FileSettings {
+    /// What is said of each recording, in their order.
+    pub recordings: Vec<RecordingSettings>,
+    /// What is said of the whole file.
+    pub general: GeneralSettings,
+}
+
+/// What is said of a recording.
+#[derive(Drop)]
+pub struct RecordingSettings {
     /// 1 to 65,536 origins of the clock, in UTC and in the order in which they were noted: the tables of
     /// `origins`, each with a `counter` and an `origin`, and with the `scale` that it is in ("UTC" if it
     /// isn't set, "TAI", "unknown"), of TAI with `tai_offset`, the seconds by which TAI is ahead; or
-    /// `origin` alone, in UTC from counter 0 on. One of the two must be set. `scale` and `tai_offset` of the
-    /// top say what an unknown scale is.
+    /// `origin` alone, in UTC from counter 0 on. One of the two must be set.
     pub origins: Vec<Origin>,
+    /// The place, from 0, of an earlier recording that this one follows in its run, if it follows one; no two
+    /// follow the same.
+    pub after: Option<usize>,
+    /// What is said of channels, each with an ID of its own; none if they aren't set.
+    pub channels: Vec<ChannelSetup>,
+    pub ghost has_origin: { 0 < length origins.items },
+}
+
+/// What is said of the whole file.
+#[derive(Drop)]
+pub struct GeneralSettings {
     /// The computer that recorded; `bpfrec` if it isn't set.
     pub host: String,
     /// The program that recorded; `bpfrec` if it isn't set.
@@ -34,9 +54,6 @@ pub struct FileSettings {
     pub is_external: bool,
     /// The attributes that a user adds, in their order; none if they aren't set.
     pub attributes: Vec<AddedAttribute>,
-    /// What is said of channels, each with an ID of its own; none if they aren't set.
-    pub channels: Vec<ChannelSetup>,
-    pub ghost has_origin: { 0 < length origins.items },
 }
 
 /// An attribute of the setup record that a user adds: `NAME:VALUE` in printable ASCII without `;`.

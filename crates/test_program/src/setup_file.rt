@@ -1,14 +1,14 @@
 //! Setups of Chapter 11 files, and the first fault of a text that is none.
 
-use rec_words::{FileSettings, setup_of};
+use rec_words::{FileSettings, RecordingSettings, setup_of};
 use std::alloc::Global;
 use std::process::Abort;
 use std::test::Fail;
 use test_samples::assert_same;
 
-/// The setup in a text, or the text's first fault, on a line.
+/// What a text says of one recording, or the text's first fault, on a line.
 fn printed(alloc: Global, text: &str) -> Result<String, Fail> {
-    match setup_of(alloc, text) {
+    match setup_of(alloc, text, 1) {
         Ok(setup) => Ok(shown(alloc, &setup)?),
         Err(fault) => Ok(format!(in alloc; "{fault}")?),
     }
@@ -17,21 +17,47 @@ fn printed(alloc: Global, text: &str) -> Result<String, Fail> {
 /// The origins, what is said of the whole file, its attributes, and its channels.
 fn shown(alloc: Global, setup: &FileSettings) -> Result<String, Fail> {
     let mut line = String::new(alloc);
-    for origin in &setup.origins {
-        let part = format!(in alloc; "{} {} / ", origin.counter, origin.nanos)?;
-        line.push_str(part.as_str())?;
+    for recording in &setup.recordings {
+        push_origins(alloc, recording, &mut line)?;
     }
-    let part = format!(in alloc; "{} {} {}", setup.host, setup.program, setup.is_external)?;
+    let general = &setup.general;
+    let part = format!(in alloc;
+        "{} {} {}",
+        general.host, general.program, general.is_external
+    )?;
     line.push_str(part.as_str())?;
-    for attribute in &setup.attributes {
+    for attribute in &general.attributes {
         let part = format!(in alloc; " / {}={}", attribute.name, attribute.value)?;
         line.push_str(part.as_str())?;
     }
-    for channel in &setup.channels {
+    for recording in &setup.recordings {
+        push_channels(alloc, recording, &mut line)?;
+    }
+    Ok(line)
+}
+
+fn push_origins(
+    alloc: Global,
+    recording: &RecordingSettings,
+    line: &mut String,
+) -> Result<(), Fail> {
+    for origin in &recording.origins {
+        let part = format!(in alloc; "{} {} / ", origin.counter, origin.nanos)?;
+        line.push_str(part.as_str())?;
+    }
+    Ok(())
+}
+
+fn push_channels(
+    alloc: Global,
+    recording: &RecordingSettings,
+    line: &mut String,
+) -> Result<(), Fail> {
+    for channel in &recording.channels {
         let part = format!(in alloc; " / {} {} {}", channel.id, channel.name, channel.net)?;
         line.push_str(part.as_str())?;
     }
-    Ok(line)
+    Ok(())
 }
 
 fn check<R: AllocGlobal + Abort>(rt: &R, text: &str, line: &str) -> Result<(), Fail> {
@@ -303,8 +329,8 @@ fn a_file_has_65536_origins_at_most(rt: HostRuntime) -> Result<(), Fail> {
 #[test]
 fn thousands_of_origins_are_read(rt: HostRuntime) -> Result<(), Fail> {
     let text = origins(rt.alloc(), 5_000, "{counter = 1, origin = \"2\"}")?;
-    let setup = setup_of(rt.alloc(), text.as_str())?;
-    assert_same!(rt; setup.origins.len(), 5_000);
+    let setup = setup_of(rt.alloc(), text.as_str(), 1)?;
+    assert_same!(rt; setup.recordings[0].origins.len(), 5_000);
     Ok(())
 }
 
@@ -408,6 +434,184 @@ const ATTRIBUTES: [(&str, &str); 41] = [
 fn an_attribute_is_one_that_a_setup_record_does_not_write(rt: HostRuntime) -> Result<(), Fail> {
     for &(texts, line) in &ATTRIBUTES {
         check_behind_origin(&rt, "attributes", texts, line)?;
+    }
+    Ok(())
+}
+
+/// What stands at the top of a single recording's setup, and the same with a table of it.
+const FORMS: [(&str, &str); 5] = [
+    ("origin = \"5\"", "recording = [{origin = \"5\"}]"),
+    (
+        "host = \"h\"\norigins = [{counter = 1, origin = \"2\"}]",
+        "host = \"h\"\nrecording = [{origins = [{counter = 1, origin = \"2\"}]}]",
+    ),
+    (
+        "origin = \"5\"\nattributes = ['A:1']\nchannel = [{id = 7, name = \"a\", net = 9}]",
+        "attributes = ['A:1']\n[[recording]]\nchannel = [{id = 7, name = \"a\", net = 9}]\norigin = \"5\"",
+    ),
+    (
+        "scale = \"TAI\"\ntai_offset = 37\norigins = [{counter = 0, origin = \"40\", scale = \"unknown\"}]",
+        "scale = \"TAI\"\ntai_offset = 37\n[[recording]]\norigins = [{counter = 0, origin = \"40\", scale = \"unknown\"}]",
+    ),
+    ("origin = \"\"", "recording = [{origin = \"\"}]"),
+];
+
+#[test]
+fn one_recording_is_the_same_in_either_form(rt: HostRuntime) -> Result<(), Fail> {
+    for &(top, table) in &FORMS {
+        let line = printed(rt.alloc(), top)?;
+        check(&rt, table, line.as_str())?;
+    }
+    Ok(())
+}
+
+/// What a text says of so many recordings, one behind the other, or the text's first fault, on a line.
+fn printed_recordings(alloc: Global, text: &str, recordings: usize) -> Result<String, Fail> {
+    let setup = match setup_of(alloc, text, recordings) {
+        Ok(setup) => setup,
+        Err(fault) => return Ok(format!(in alloc; "{fault}")?),
+    };
+    let mut line = String::new(alloc);
+    for recording in &setup.recordings {
+        if let Some(place) = recording.after {
+            let part = format!(in alloc; "after {place} / ")?;
+            line.push_str(part.as_str())?;
+        }
+        push_origins(alloc, recording, &mut line)?;
+        push_channels(alloc, recording, &mut line)?;
+        line.push_str("; ")?;
+    }
+    Ok(line)
+}
+
+/// How many recordings there are, what SETUP has, and what is read.
+const RECORDINGS: [(usize, &str, &str); 33] = [
+    (
+        2,
+        "recording = [{origin = \"0\"}, {origin = \"1\"}]",
+        "0 0 / ; 0 1000000000 / ; ",
+    ),
+    (
+        2,
+        "recording = [{origin = \"0\"}, {after = 0, origin = \"1\"}]",
+        "0 0 / ; after 0 / 0 1000000000 / ; ",
+    ),
+    (
+        3,
+        "recording = [{origin = \"0\"}, {after = 0, origin = \"1\"}, {after = 1, origin = \"2\"}]",
+        "0 0 / ; after 0 / 0 1000000000 / ; after 1 / 0 2000000000 / ; ",
+    ),
+    (
+        2,
+        "recording = [{origin = \"0\", channel = [{id = 1}]}, {origin = \"0\", channel = [{id = 1, net = 2}]}]",
+        "0 0 /  / 1 channel 0; 0 0 /  / 1 channel 2; ",
+    ),
+    (
+        2,
+        "scale = \"UTC\"\nrecording = [{origin = \"0\"}, {origins = [{counter = 1, origin = \"1\", scale = \"unknown\"}]}]",
+        "0 0 / ; 1 1000000000 / ; ",
+    ),
+    (2, "", "setup 3 Missing recording"),
+    (2, "origin = \"0\"", "setup 3 Missing recording"),
+    (2, "scale = 1", "setup 4 Value scale"),
+    (2, "recording = []", "setup 4 Value recording"),
+    (2, "recording = [{zone = 1}]", "setup 4 Value recording"),
+    (
+        2,
+        "recording = [{zone = 1}, {}, {}]",
+        "setup 4 Value recording",
+    ),
+    (1, "recording = []", "setup 4 Value recording"),
+    (1, "recording = 1\nhost = 1", "setup 4 Value recording"),
+    (1, "recording = [1]", "setup 4 Value recording"),
+    (1, "[recording]\norigin = \"0\"", "setup 4 Value recording"),
+    (
+        1,
+        "tai_offset = 1\nrecording = 1",
+        "setup 4 Value tai_offset",
+    ),
+    (
+        1,
+        "origin = 1\nrecording = [{zone = 1}]",
+        "setup 4 Value recording",
+    ),
+    (
+        1,
+        "origins = 1\nrecording = [{zone = 1}]",
+        "setup 4 Value recording",
+    ),
+    (
+        1,
+        "channel = []\nrecording = [{origin = \"0\"}]",
+        "setup 4 Value recording",
+    ),
+    (1, "recording = 1\nzone = 1", "setup 2 Unknown zone"),
+    (
+        1,
+        "recording = [{zone = 1, area = 1}]\nhost = 1",
+        "setup 2 Unknown area",
+    ),
+    (1, "recording = [{host = \"h\"}]", "setup 2 Unknown host"),
+    (1, "recording = [{}]\nhost = 1", "setup 3 Missing origin"),
+    (
+        1,
+        "recording = [{origin = \"0\"}]\nhost = 1",
+        "setup 4 Value host",
+    ),
+    (
+        1,
+        "recording = [{origin = \"0\", origins = [], after = 0}]",
+        "setup 4 Value origins",
+    ),
+    (
+        1,
+        "recording = [{origin = \"0\", after = 0, channel = 1}]",
+        "setup 4 Value after",
+    ),
+    (
+        1,
+        "recording = [{origin = \"0\", channel = [{id = 1}, {id = 1}]}]",
+        "setup 4 Value id",
+    ),
+    (
+        2,
+        "recording = [{origin = \"0\"}, {origin = \"0\", after = 1}]",
+        "setup 4 Value after",
+    ),
+    (
+        2,
+        "recording = [{origin = \"0\"}, {origin = \"0\", after = -1}]",
+        "setup 4 Value after",
+    ),
+    (
+        2,
+        "recording = [{origin = \"0\"}, {origin = \"0\", after = \"0\"}]",
+        "setup 4 Value after",
+    ),
+    (
+        3,
+        "recording = [{origin = \"0\"}, {origin = \"0\", after = 0}, {origin = \"0\", after = 0}]",
+        "setup 4 Value after",
+    ),
+    (
+        2,
+        "recording = [{origin = \"0\", channel = 1}, {zone = 1}]",
+        "setup 4 Value channel",
+    ),
+    (
+        2,
+        "recording = [{origin = \"0\"}, {zone = 1}]",
+        "setup 2 Unknown zone",
+    ),
+];
+
+#[test]
+fn each_recording_has_a_table_and_follows_an_earlier_one_at_most(
+    rt: HostRuntime,
+) -> Result<(), Fail> {
+    for &(recordings, text, line) in &RECORDINGS {
+        let printed = printed_recordings(rt.alloc(), text, recordings)?;
+        assert_same!(rt; printed.as_str(), line, "{text}");
     }
     Ok(())
 }

@@ -79,13 +79,13 @@ IN_TAI = 'counter = 0, origin = "1764590437.250000123"'
     [
         f'origins = [{{ {IN_TAI}, scale = "TAI", tai_offset = 37 }}]',
         f'scale = "TAI"\ntai_offset = 37\norigins = [{{ {IN_TAI}, scale = "unknown" }}]',
+        'recording = [{ origin = "1764590400.250000123" }]',
+        f'[[recording]]\norigins = [{{ {IN_TAI}, scale = "TAI", tai_offset = 37 }}]\nchannel = [{{ id = 9 }}]',
     ],
 )
-def test_an_origin_in_tai_gives_the_same_file(work: Path, setup: str) -> None:
+def test_an_origin_in_tai_or_in_a_table_of_its_recording_gives_the_same_file(work: Path, setup: str) -> None:
     done = chapter11(work, SAMPLES[1].read_bytes(), f"{setup}\n")
-    judge(
-        "37 seconds are taken from it", hashlib.sha256((work / "flight.ch10").read_bytes()).hexdigest() == ONE_SUM, done
-    )
+    judge("its sum", hashlib.sha256((work / "flight.ch10").read_bytes()).hexdigest() == ONE_SUM, done)
 
 
 @pytest.mark.parametrize("seed", range(16))

@@ -5,7 +5,7 @@ use Rattle.ch11_clock.specs.declared.origin.Origin.{Origin}
 use Rattle.ch11_index.specs.declared.index.TheConstants.{MOST_NAMED}
 use Rattle.ch11_setup.specs.Setups.{given_attribute}
 use Rattle.rec_whole.specs.WholeRecordings.{WholeFails, WritesRecording}
-use Rattle.rec_words.specs.SetupViews.{attribute_data, setup_channel_data}
+use Rattle.rec_words.specs.SetupViews.{attribute_data, recording_data, setup_channel_data}
 use Rattle.cli_chapter11.specs.WholeFiles.{channel_said}
 use Rattle.cli_chapter11.proofs.WrittenFiles.{clock_of_setup}
 use Rattle.cli_chapter11.proofs.passes.write_once.Goals as goal
@@ -26,19 +26,17 @@ returns-in_err-clock g c =
     rw (p.1, p.2) (c.args.output, λ bytes packets known reads lists. inl (refl, Appends-nil _))
 
 pub names_of-names-requires : goal.names_of-names-requires
-names_of-names-requires g c = record {
-  channels = ap (map channel_said) c.as_slice-4.ensures.value ∙ (c.in_ok-channels.ensures ∙ ap (map setup_channel_data) c.as_slice.ensures.value);
-  attributes = ap (map given_attribute) c.as_slice-5.ensures.value
-      ∙ (c.in_ok-attributes.ensures ∙ ap (map attribute_data) c.as_slice-2.ensures.value);
-}
+names_of-names-requires g c = ap (map given_attribute) c.as_slice-5.ensures.value
+    ∙ (c.in_ok-attributes.ensures ∙ ap (map attribute_data) c.as_slice-2.ensures.value)
 
 pub returns-in-Ok : goal.returns-in-Ok
 returns-in-Ok g c = λ bytes packets known reads lists. (
   c.names_of-names.result,
-  c.names_of-names.ensures,
+  c.names_of-names.ensures (recording_data c.args.whole.now.recording.now)
+      (ap (map channel_said) c.as_slice-4.ensures.value ∙ (c.in_ok-channels.ensures ∙ ap (map setup_channel_data) c.as_slice.ensures.value)),
   subst (λ (rules : List Origin). WritesRecording packets c.names_of-names.result rules MOST_NAMED (g.W.Write.contents c.args.output)
       (g.W.Write.contents c.write_whole_file-written.new.out.out) c.in-Ok.counts)
-      (clock_of_setup c.args.whole.now.settings.now c.in_ok-clock.clock _ c.in_ok-clock.ensures.held c.as_slice-3.ensures.value)
+      (clock_of_setup c.args.whole.now.recording.now c.in_ok-clock.clock _ c.in_ok-clock.ensures.held c.as_slice-3.ensures.value)
       (c.in-Ok.ensures bytes packets known reads lists),
 )
 
@@ -47,10 +45,11 @@ returns g c = (
   c.write_whole_file-written.new.out.out,
   λ bytes packets known reads lists. inr (
     c.names_of-names.result,
-    c.names_of-names.ensures,
+    c.names_of-names.ensures (recording_data c.args.whole.now.recording.now)
+        (ap (map channel_said) c.as_slice-4.ensures.value ∙ (c.in_ok-channels.ensures ∙ ap (map setup_channel_data) c.as_slice.ensures.value)),
     subst (λ (rules : List Origin). WholeFails packets c.names_of-names.result rules MOST_NAMED (g.W.Write.contents c.args.output)
         (g.W.Write.contents c.write_whole_file-written.new.out.out) c.in-Err.end)
-        (clock_of_setup c.args.whole.now.settings.now c.in_ok-clock.clock _ c.in_ok-clock.ensures.held c.as_slice-3.ensures.value)
+        (clock_of_setup c.args.whole.now.recording.now c.in_ok-clock.clock _ c.in_ok-clock.ensures.held c.as_slice-3.ensures.value)
         (c.in-Err.ensures bytes packets known reads lists),
   ),
 )
