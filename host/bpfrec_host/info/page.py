@@ -61,9 +61,7 @@ def table(rows: Iterable[Row], bad: Collection[str] = ()) -> str:
     return f"<table>{''.join(cells)}</table>"
 
 
-def filters(
-    channel_id: int, channel: Channel, axis: Axis, texts: Texts, beside: Optional[FactsFile]
-) -> Iterator[str]:
+def filters(channel_id: int, channel: Channel, axis: Axis, texts: Texts, beside: Optional[FactsFile]) -> Iterator[str]:
     """Each version's span with its words and its text beside it."""
     for at, version in enumerate(channel.versions):
         after = channel.versions[at + 1] if at + 1 < len(channel.versions) else None

@@ -35,9 +35,7 @@ Observe = Callable[[str, Optional[Sent]], None]
 class Publisher:
     """Publishes a run at one address."""
 
-    def __init__(
-        self, target: Target, loop: Loop, guard: Guard, err: Callable[[str], None], observe: Observe
-    ) -> None:
+    def __init__(self, target: Target, loop: Loop, guard: Guard, err: Callable[[str], None], observe: Observe) -> None:
         self.target, self.loop, self.guard = target, loop, guard
         self.print_line, self.observe = err, observe
         self.child: Optional[children.Child] = None

@@ -7,16 +7,7 @@ from typing import Optional
 
 from bpfrec_host.live.expressions import ALL
 from bpfrec_host.live.ports import Counts, Setup
-from bpfrec_host.live.status.view import (
-    HISTORY_SECONDS,
-    ChannelView,
-    FilterView,
-    LinkView,
-    Second,
-    Unkept,
-    lost,
-    since,
-)
+from bpfrec_host.live.status.view import HISTORY_SECONDS, ChannelView, FilterView, LinkView, Second, Unkept, lost, since
 
 # Counts that come closer together than this make no rate of their own, and those that are older tell none, in seconds.
 LEAST_BETWEEN, MOST_BETWEEN = 0.5, 2.5
