@@ -281,7 +281,7 @@ def test_a_channel_has_the_name_of_the_settings_and_is_found_by_it(work: Path) -
     opened = bpfrec.open(written(work, recording(), ONE_ORIGIN, interfaces=interfaces))
     found = [(it.name, it.interface) for it in opened.channels]
     judge("its name, and its interface", found == [("bus A", "eth0"), ("channel 2", None)], found)
-    by = [counters(opened.frames(it)) for it in ("bus A", "eth0", 1)]
+    by = [counters(opened.frames("bus A")), counters(opened.frames("eth0")), counters(opened.frames(1))]
     judge("by each of the three", by[0] and by[0] == by[1] == by[2], by)
 
 

@@ -24,7 +24,8 @@ def flight(work: Path) -> Path:
         digest = hashlib.sha256(path.read_bytes()).hexdigest()
         named = {"recording": path.name, "sha256": digest, "bytes": path.stat().st_size, "before": before}
         facts: dict = {**facts_of_run(ORIGINS), "interfaces": [{"interface": "eth0", "channel": 1}]}
-        facts |= {**named, "next": f"flight_0000{number + 1}.ch11" if number < 3 else None}
+        facts |= named
+        facts["next"] = f"flight_0000{number + 1}.ch11" if number < 3 else None
         Path(f"{path}.json").write_text(json.dumps(facts))
         before = {"recording": path.name, "sha256": digest}
     recording_at(work / "flight_two_00001.ch11", [7], 1)

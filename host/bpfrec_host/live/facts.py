@@ -139,8 +139,8 @@ class Writer:
         """Writes the facts by what was noted, and returns them; the status is None while the recording goes on, and
         `following` the OUT of the next recording, where one has begun. An OSError says that they can't be written; then
         those of before stay."""
-        following = following and os.path.basename(following)
-        facts = {**self.beginning(about), **noted, **self.ending(about, status), "next": following}
+        facts = {**self.beginning(about), **noted, **self.ending(about, status)}
+        facts["next"] = following and os.path.basename(following)
         facts["marks"] = marks_of(self.folder.of(about.number), noted["origins"])
         facts["origin_utc"] = utc_of_origin(noted["origins"])
         if status is not None:

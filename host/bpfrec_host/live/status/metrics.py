@@ -125,13 +125,18 @@ def of_run(view: View) -> Iterator[str]:
 def of_ground(view: View) -> Iterator[str]:
     """The metrics of the ground stations."""
     told = (
-        ("datagrams_total", COUNTER, "Datagrams that were sent to a ground station.", lambda it: it.datagrams),
-        ("lost_datagrams_total", COUNTER, "Those of them that were lost here.", lambda it: it.lost),
-        ("late_packets_total", COUNTER, "Packets that were sent late.", lambda it: it.late),
-        ("is_sent_to", GAUGE, "1 while its publisher runs, else 0.", lambda it: int(it.is_sent_to)),
+        (
+            "datagrams_total",
+            COUNTER,
+            "Datagrams that were sent to a ground station.",
+            [it.datagrams for it in view.ground],
+        ),
+        ("lost_datagrams_total", COUNTER, "Those of them that were lost here.", [it.lost for it in view.ground]),
+        ("late_packets_total", COUNTER, "Packets that were sent late.", [it.late for it in view.ground]),
+        ("is_sent_to", GAUGE, "1 while its publisher runs, else 0.", [int(it.is_sent_to) for it in view.ground]),
     )
-    for name, kind, text, value in told:
-        samples: list[Sample] = [((("address", it.address),), value(it)) for it in view.ground]
+    for name, kind, text, values in told:
+        samples: list[Sample] = [((("address", it.address),), value) for it, value in zip(view.ground, values)]
         yield family(f"ground_{name}", kind, text, samples)
 
 
