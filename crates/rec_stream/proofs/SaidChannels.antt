@@ -4,7 +4,8 @@ use Rattle.std.specs.Prelude.{cond}
 use Rattle.std.proofs.lemmas.List.{length-map}
 use Rattle.ch11_setup.specs.declared.setup.SetupChannel.{SetupChannel}
 use Rattle.rec_pieces.proofs.ChannelsListed.{more}
-use Rattle.rec_whole.specs.NamedChannels.{AreNamed, IsLeastFree, name_of, name_said}
+use Rattle.ch11_channels.specs.FreeIds.{IsLeastFree}
+use Rattle.rec_whole.specs.NamedChannels.{AreNamed, name_of, name_said}
 use Rattle.rec_whole.proofs.FreeChannels.{fewer, from_none}
 use Rattle.rec_stream.specs.StreamChannels.{is_said, said_below, said_ids}
 

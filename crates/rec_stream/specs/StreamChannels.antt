@@ -4,7 +4,8 @@ use Rattle.std.specs.List.{filter, list_any, range_with_len}
 use Rattle.ch11_file.specs.declared.setup.FileSetup.{FileSetup}
 use Rattle.ch11_setup.specs.declared.setup.SetupChannel.{SetupChannel}
 use Rattle.rec_whole.specs.declared.names.FileNames.{FileNames}
-use Rattle.rec_whole.specs.NamedChannels.{AreNamed, IsLeastFree}
+use Rattle.ch11_channels.specs.FreeIds.{IsLeastFree}
+use Rattle.rec_whole.specs.NamedChannels.{AreNamed}
 use Rattle.rec_whole.specs.WholeRecordings.{SaysNames}
 
 -- whether one of these channels has this ID

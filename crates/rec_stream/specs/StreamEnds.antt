@@ -16,7 +16,7 @@ use Rattle.rec_pieces.specs.declared.entry.PieceKind.{PieceKind}
 use Rattle.rec_pieces.specs.Entries.{packet_names}
 use Rattle.rec_pieces.specs.Listings.{least_of, packet_counters}
 use Rattle.rec_whole.specs.declared.names.FileNames.{FileNames}
-use Rattle.rec_whole.specs.NamedChannels.{AreAllTaken}
+use Rattle.ch11_channels.specs.FreeIds.{AreAllTaken}
 use Rattle.rec_stream.specs.declared.counts.StreamCounts.{StreamCounts}
 use Rattle.rec_stream.specs.declared.end.StreamRefusal.TheVariants.{Other, Origin, Year, Full}
 use Rattle.rec_stream.specs.declared.end.StreamEnd.{StreamEnd}

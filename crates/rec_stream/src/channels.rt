@@ -1,7 +1,7 @@
 //! The channels of a stream: those that are named before it begins.
 
 ghost use Rattle.std.specs.Prelude.{◌≡◌, IfOk, MatchOption};
-ghost use Rattle.rec_whole.specs.NamedChannels.{AreAllTaken, IsLeastFree};
+ghost use Rattle.ch11_channels.specs.FreeIds.{AreAllTaken, IsLeastFree};
 ghost use Rattle.rec_stream.specs.StreamChannels.{is_said, said_below};
 
 use ch11_setup::SetupChannel;

@@ -4,7 +4,7 @@ ghost use Rattle.std.specs.Prelude.{ℕ, ◌≡◌, ◌<◌, ◌++◌, ◌^◌, 
 ghost use Rattle.std.specs.Io.KnownBytes.{Keeps};
 ghost use Rattle.rec_reader.specs.Packets.{PacketData};
 ghost use Rattle.rec_reader.specs.Readers.{HasRead, Tells, given_by};
-ghost use Rattle.rec_whole.specs.NamedChannels.{AreAllTaken};
+ghost use Rattle.ch11_channels.specs.FreeIds.{AreAllTaken};
 ghost use Rattle.rec_stream.specs.StreamChannels.{is_said};
 ghost use Rattle.rec_stream.specs.StreamEnds.{NextFails, PacketsFail, StreamFails, WritesPackets, WritesStream, stream_facts};
 

@@ -8,7 +8,8 @@ use Rattle.rec_reader.specs.Packets.{PacketData}
 use Rattle.rec_pieces.specs.declared.listing.PieceListing.{PieceListing}
 use Rattle.rec_pieces.specs.PieceListings.{ListsPackets, are_some, is_listed, is_named, listed_below, listed_channels, named_channels}
 use Rattle.rec_pieces.proofs.ChannelsListed.{listed_are_named}
-use Rattle.rec_whole.specs.NamedChannels.{AreNamed, IsLeastFree, name_of, name_said}
+use Rattle.ch11_channels.specs.FreeIds.{IsLeastFree}
+use Rattle.rec_whole.specs.NamedChannels.{AreNamed, name_of, name_said}
 
 -- ---- fewer than all
 

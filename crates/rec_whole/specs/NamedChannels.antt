@@ -1,8 +1,6 @@
--- Channels with their names, and which channel IDs are free.
-use Rattle.std.specs.Prelude.{ℕ, ◌≡◌, ◌≤◌, ◌<◌, ◌^◌, ◌==◌, Bool, true, false, if◌then◌else◌, List, [], ◌∷◌, map, codes}
+-- Channels with their names.
+use Rattle.std.specs.Prelude.{ℕ, ◌≡◌, ◌==◌, if◌then◌else◌, List, [], ◌∷◌, map, codes}
 use Rattle.ch11_setup.specs.declared.setup.SetupChannel.{SetupChannel}
-
--- ---- names
 
 -- what a setup record says of a channel
 pub record ChannelName : Type 0 where
@@ -26,16 +24,3 @@ name_of (channel ∷ channels) id =
 -- the channels of these IDs, in order, each with its name
 abbrev pub AreNamed : (names : List SetupChannel) → (ids : List ℕ) → List SetupChannel → Type 0
 AreNamed names ids channels = map name_said channels ≡ map (name_of names) ids
-
--- ---- free channel IDs
-
--- the least channel ID from 1 on that isn't taken
-pub record IsLeastFree (is_taken : ℕ → Bool) (id : ℕ) : Type 0 where
-  pub from_one : 1 ≤ id
-  pub is_id : id < 2 ^ 16
-  pub free : is_taken id ≡ false
-  pub least : (other : ℕ) → 1 ≤ other → other < id → is_taken other ≡ true
-
--- all channel IDs from 1 on are taken
-abbrev pub AreAllTaken : (ℕ → Bool) → Type 0
-AreAllTaken is_taken = (id : ℕ) → 1 ≤ id → id < 2 ^ 16 → is_taken id ≡ true

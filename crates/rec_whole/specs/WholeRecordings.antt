@@ -17,7 +17,8 @@ use Rattle.rec_whole.specs.declared.names.FileNames.{FileNames}
 use Rattle.rec_whole.specs.declared.refusal.WholeRefusal.TheVariants.{Other, Disorder, Gap, Origin as LacksOrigin, Year, Full}
 use Rattle.rec_whole.specs.declared.refusal.WholeEnd.{WholeEnd}
 use Rattle.rec_whole.specs.declared.refusal.WholeEnd.TheVariants.{Refused, Recording, Output, Memory}
-use Rattle.rec_whole.specs.NamedChannels.{AreAllTaken, AreNamed, IsLeastFree}
+use Rattle.ch11_channels.specs.FreeIds.{AreAllTaken, IsLeastFree}
+use Rattle.rec_whole.specs.NamedChannels.{AreNamed}
 
 -- ---- what packets say
 

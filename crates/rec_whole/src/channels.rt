@@ -2,7 +2,8 @@
 
 ghost use Rattle.std.specs.Prelude.{◌≡◌, IfOk, MatchOption};
 ghost use Rattle.rec_pieces.specs.PieceListings.{is_listed};
-ghost use Rattle.rec_whole.specs.NamedChannels.{AreAllTaken, AreNamed, IsLeastFree, name_of, name_said};
+ghost use Rattle.ch11_channels.specs.FreeIds.{AreAllTaken, IsLeastFree};
+ghost use Rattle.rec_whole.specs.NamedChannels.{AreNamed, name_of, name_said};
 
 use ch11_setup::SetupChannel;
 use rec_pieces::PieceListing;

@@ -7,6 +7,7 @@ pub mod calls_bpf_dis;
 pub mod calls_bpf_insn;
 pub mod calls_bpf_machine;
 pub mod calls_bpf_verify;
+pub mod calls_ch11_channels;
 pub mod calls_ch11_clock;
 pub mod calls_ch11_file;
 pub mod calls_ch11_index;

@@ -21,6 +21,8 @@ mod machine;
 #[cfg(test)]
 mod merge;
 #[cfg(test)]
+mod numbering;
+#[cfg(test)]
 mod packet;
 #[cfg(test)]
 mod setup;

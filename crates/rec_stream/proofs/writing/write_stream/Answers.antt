@@ -1,5 +1,6 @@
 use Rattle.std.proofs.Common.{sym, subst, ◌∙◌}
-use Rattle.rec_whole.specs.NamedChannels.{AreNamed, IsLeastFree}
+use Rattle.ch11_channels.specs.FreeIds.{IsLeastFree}
+use Rattle.rec_whole.specs.NamedChannels.{AreNamed}
 use Rattle.rec_stream.specs.StreamChannels.{IsStreamSetup, is_said, said_ids}
 use Rattle.rec_stream.proofs.SaidChannels.{few_channels}
 use Rattle.rec_stream.proofs.StreamWrites.{by_setup}

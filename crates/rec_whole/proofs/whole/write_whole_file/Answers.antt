@@ -1,7 +1,8 @@
 use Rattle.std.proofs.Common.{◌≡◌, ◌<◌, ◌^◌, None, length, sym, subst, ◌∙◌}
 use Rattle.rec_pieces.specs.Listings.{other_of}
 use Rattle.rec_pieces.specs.PieceListings.{is_named, listed_channels, named_channels}
-use Rattle.rec_whole.specs.NamedChannels.{AreNamed, IsLeastFree}
+use Rattle.ch11_channels.specs.FreeIds.{IsLeastFree}
+use Rattle.rec_whole.specs.NamedChannels.{AreNamed}
 use Rattle.rec_whole.specs.WholeRecordings.{IsSetupOf}
 use Rattle.rec_whole.proofs.FreeChannels.{few_named, free_of_packets, named_of_packets}
 use Rattle.rec_whole.proofs.WholeFiles.{whole_of}

@@ -1,0 +1,2 @@
+pub mod TakenFlags
+pub mod FileNumbering

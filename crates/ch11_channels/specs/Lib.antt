@@ -1,0 +1,3 @@
+pub mod FreeIds
+pub mod GivenIds
+pub mod Runs
