@@ -7,4 +7,5 @@ pub mod ReservedRead
 pub mod AddedRead
 pub mod ScalesRead
 pub mod FileRead
+pub mod FormsSame
 pub mod SourcesSaid

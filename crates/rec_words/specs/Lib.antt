@@ -8,4 +8,5 @@ pub mod SettingsViews
 pub mod ReservedNames
 pub mod SetupFile
 pub mod SetupFormat
+pub mod SetupForms
 pub mod SetupViews

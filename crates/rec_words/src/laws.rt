@@ -6,7 +6,9 @@ ghost use Rattle.ch11_setup.specs.Attributes.{AreAttributes};
 ghost use Rattle.ch11_setup.specs.Setups.{IsSetup, given_attribute, setup_attributes};
 ghost use Rattle.ch11_setup.specs.Sources.{SaysSources};
 ghost use Rattle.std.specs.List.{AllByRecursion};
-ghost use Rattle.rec_words.specs.SetupFile.{FileData, setup_file, CanBeAdded};
+ghost use Rattle.toml.specs.Data.{Members};
+ghost use Rattle.rec_words.specs.SetupFile.{FileData, file_in, setup_file, CanBeAdded};
+ghost use Rattle.rec_words.specs.SetupForms.{SayOneRecording};
 ghost use Rattle.rec_words.specs.SetupFormat.{IsFileOf};
 ghost use Rattle.rec_words.specs.ReservedNames.{is_reserved, IsReserved, own_attributes, AreReserved};
 ghost use Rattle.rec_words.specs.Format.{AreSettingsOf, IsFaultOfText};
@@ -62,4 +64,11 @@ pub fn a_setup_record_says_exactly_its_channels()
 pub fn a_setup_is_what_its_text_says()
     ensures { (count : ℕ) (text : List ℕ) (file : FileData) → setup_file count text ≡ Ok file
         → IsFileOf count text file }
+{}
+
+/// Law: a document that says something of its only recording at its top says the same file as one that says it in
+/// a table.
+pub fn one_recording_is_said_in_either_form()
+    ensures { (top tabled table : Members) (file : FileData) → SayOneRecording top tabled table
+        → (file_in 1 top ≡ Ok file) ↔ (file_in 1 tabled ≡ Ok file) }
 {}

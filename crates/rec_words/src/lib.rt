@@ -13,7 +13,7 @@ pub use command_line::VERSION;
 pub use laws::{
     a_setup_is_what_its_text_says, a_setup_record_says_exactly_its_channels,
     a_setup_record_writes_reserved_names, added_attributes_are_attributes,
-    settings_are_those_of_the_format,
+    one_recording_is_said_in_either_form, settings_are_those_of_the_format,
 };
 pub use settings::{ChannelSettings, Settings, SettingsFault, settings_of};
 pub use setup_file::{
