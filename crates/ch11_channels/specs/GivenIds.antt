@@ -19,6 +19,10 @@ has_own id named = named.channel == id
 abbrev pub owner : FileChannel → RunChannel
 owner channel = channel.of
 
+-- its ID in the file
+abbrev pub given_id : FileChannel → ℕ
+given_id channel = channel.id
+
 -- it has those of this one; it has this ID in its recordings; it has this ID in the file
 abbrev pub is_owned_by : RunChannel → FileChannel → Bool
 is_owned_by of channel = is_same of channel.of

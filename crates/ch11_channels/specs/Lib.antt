@@ -1,3 +1,4 @@
 pub mod FreeIds
 pub mod GivenIds
+pub mod NamedIds
 pub mod Runs

@@ -1,9 +1,9 @@
 //! The channels of a file, with their IDs.
 
-ghost use Rattle.std.specs.Prelude.{◌≡◌, ◌^◌, true, List, length, IfOk, MatchOption};
-ghost use Rattle.std.specs.List.{list_any};
+ghost use Rattle.std.specs.Prelude.{◌≡◌, ◌^◌, true, List, length, option_map, IfOk, MatchOption};
+ghost use Rattle.std.specs.List.{find, list_any};
 ghost use Rattle.ch11_channels.specs.FreeIds.{AreAllTaken, IsLeastFree};
-ghost use Rattle.ch11_channels.specs.GivenIds.{AreNumberedChannels, AreTakenIds, HasId, NoIdIsFree, is_id_of, is_owned_by, is_taken_id, was_own};
+ghost use Rattle.ch11_channels.specs.GivenIds.{AreNumberedChannels, AreTakenIds, given_id, HasId, NoIdIsFree, is_id_of, is_owned_by, is_taken_id, was_own};
 
 use crate::channels::{FileChannel, RunChannel};
 use crate::taken::{free_id, taken_ids};
@@ -78,7 +78,7 @@ fn is_among(channels: &[FileChannel], of: RunChannel) -> bool
     ensures { result ≡ list_any (is_owned_by of) channels.now }
 {
     'channels: for channel in channels {
-        if channel.of.run == of.run && channel.of.channel == of.channel {
+        if is_owned_by(channel, of) {
             return true;
         }
     }
@@ -95,4 +95,23 @@ fn is_own(channels: &[FileChannel], id: u16) -> bool
         }
     }
     false
+}
+
+/// The ID in a file of a channel of a run, if the file has it.
+pub fn id_in_file(channels: &[FileChannel], of: RunChannel) -> Option<u16>
+    ensures { result ≡ option_map given_id (find (is_owned_by of) channels.now) }
+{
+    'channels: for channel in channels {
+        if is_owned_by(channel, of) {
+            return Some(channel.id);
+        }
+    }
+    None
+}
+
+/// Whether a channel of a file has the frames of this one.
+fn is_owned_by(channel: &FileChannel, of: RunChannel) -> bool
+    ensures { result ≡ is_owned_by of channel.now }
+{
+    channel.of.run == of.run && channel.of.channel == of.channel
 }
