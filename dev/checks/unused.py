@@ -3,6 +3,8 @@
 
 - A definition or a lemma of specs/ or proofs/ is used where an item other than itself names it, in any
   crate; an import alone is no use.
+- A definition of specs/ is there for a clause: code names it, or a definition that is needed so. What proofs alone
+  name stands in proofs/.
 - A public function, type or trait of a library is used where another file names it, tests and `bench` left out;
   laws, which run nothing, are no calls, and OFFERED has those that are there for others.
 - A public word of specs/ stands in one crate: of one that stands in two, each reader of a clause would
@@ -104,6 +106,21 @@ def unused_definitions(items: list[Item], code: Code) -> Iterator[Place]:
             yield file, at, name
 
 
+def unneeded_definitions(items: list[Item], code: Code) -> Iterator[Place]:
+    """The items of specs/ that no clause needs, though proofs name them. What has no name of its own is needed."""
+    known = {word for _, words in code for word in words}
+    left = [item for item in items if "specs" in item[0].parts]
+
+    def is_needed(item: Item) -> bool:
+        return item[2] in known or item[2].startswith("line ")
+
+    while needed := [item for item in left if is_needed(item)]:
+        left = [item for item in left if not is_needed(item)]
+        known.update(*(words for *_, words in needed))
+    for file, at, name, *_ in left:
+        yield file, at, name
+
+
 def unused_calls(code: Code) -> Iterator[Place]:
     """What libraries have in public that no other file names, but for laws and what is offered."""
     tests = {it for it in crates() if crates()[it].has_tests()} | FOR_TESTS
@@ -143,13 +160,14 @@ def main() -> int:
     items, code = list(definitions()), list(code_words())
     found = [
         *((it, "nothing names it") for it in unused_definitions(items, code)),
+        *((it, "no clause needs it") for it in unneeded_definitions(items, code)),
         *((it, "nothing but tests names it") for it in unused_calls(code)),
         *((it, "another crate has this word too") for it in sorted(doubles(items), key=lambda item: item[2])),
     ]
     for (file, at, name), reason in found:
         print(f"{file.relative_to(ROOT)}:{at} {name}: {reason}")
     if not found:
-        print("nothing is unused, and each public word of specs/ stands in one crate")
+        print("nothing is unused, clauses need all of specs/, and each public word of it stands in one crate")
     return 1 if found else 0
 
 

@@ -12,7 +12,7 @@ use Rattle.ch11_file.specs.declared.kind.BlockKind.{BlockKind}
 use Rattle.ch11_file.specs.declared.kind.BlockKind.TheVariants.{Setup, Index}
 use Rattle.ch11_file.specs.declared.limits.TheConstants.{MAX_SETUP_LEN}
 use Rattle.ch11_file.specs.declared.setup.FileSetup.{FileSetup}
-use Rattle.ch11_file.specs.FileBlocks.{FileBlock, BlockContent, block_of, block_header, block_packet, block_len, block_body, kind_of, named_of}
+use Rattle.ch11_file.specs.FileBlocks.{FileBlock, BlockContent, block_header, block_packet, block_len, block_body, kind_of, named_of}
 use Rattle.ch11_file.specs.FileBlocks.BlockContent.{SetupBlock, TimeBlock, PieceBlock, NodeBlock, RootBlock}
 use Rattle.ch11_file.specs.WholeFile.{FileFacts, FileState, MergeState, BlockGoesNext, ContentGoesNext, IndexIsDue, block_channel, file_state}
 use Rattle.ch11_file.specs.FileEnds.{HoldsFront}
@@ -20,6 +20,9 @@ use Rattle.ch11_file.specs.Sending.{SentState, HasSent, IsContent, WritesWhole, 
 use Rattle.ch11_file.proofs.GoingOut.{sent_more, part_more}
 
 -- ---- a packet and what its code says of it
+
+abbrev pub block_of : (channel sequence counter : ℕ) → BlockContent → FileBlock
+block_of channel sequence counter content = record { channel = channel; sequence = sequence; counter = counter; content = content }
 
 -- the packet that holds this, with the next number of its channel
 abbrev pub block_sent : SentState → FileSetup → BlockContent → (counter : ℕ) → FileBlock

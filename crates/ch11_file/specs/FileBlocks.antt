@@ -41,10 +41,6 @@ pub record FileBlock : Type 0 where
   pub counter : ℕ
   pub content : BlockContent
 
-abbrev pub block_of : (channel sequence counter : ℕ) → BlockContent → FileBlock
-block_of channel sequence counter content =
-    record { channel = channel; sequence = sequence; counter = counter; content = content }
-
 -- ---- their bytes
 
 abbrev pub kind_of : BlockContent → BlockKind

@@ -18,7 +18,6 @@ use Rattle.rec_run.specs.Jobs.{IsJob, AreInRange}
 use Rattle.rec_run.specs.Recorded.{IsRecorded, IsCutShort, IsControlled}
 use Rattle.rec_run.specs.Threads.{jobs_in}
 use Rattle.rec_run.specs.Verdicts.{TellsOf, Concludes, ConcludesControl, ConcludesCut, CutsShort, EndsWell, EndsAtFlush}
-use Rattle.rec_run.specs.Writer.{IsGood}
 use Rattle.rec_run.specs.declared.control.change.Logged.{Logged}
 use Rattle.rec_run.specs.declared.job.Job.{Job}
 use Rattle.rec_run.specs.declared.threads.joins.Joined.{Joined}
@@ -33,6 +32,7 @@ use Rattle.rec_run.specs.declared.writer.Wrote.{Wrote}
 use Rattle.rec_run.specs.declared.writer.Wrote.TheVariants.{Nothing, Piece, Failed, Link as LinkWrote}
 use Rattle.rec_run.proofs.Concluding.{recorded, cut_at_flush, cut_at_piece}
 use Rattle.rec_run.proofs.ControlAnswers.{controlled}
+use Rattle.rec_run.proofs.Writes.{IsGood}
 
 module _ {S : Type 0} (left : S → Option Left) (failures : S → ℕ) (ended_as : S
     → Option SourceEnding) (first : Option (List ℕ)) (jobs : List (Job S)) (js : List (Joined S)) (writer : WriterState) (bytes : ℕ) where

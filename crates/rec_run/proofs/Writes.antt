@@ -22,8 +22,15 @@ use Rattle.rec_run.specs.Writer.{bytes_of, CountsPacket}
 use Rattle.rec_run.specs.declared.writer.line.WriterLine.{WriterLine}
 use Rattle.rec_run.specs.declared.writer.Wrote.{Wrote}
 use Rattle.rec_run.specs.declared.writer.Wrote.TheVariants.{Nothing, Piece as PieceWent, Failed, Link}
-use Rattle.rec_run.specs.Writer.{has_buffer, buffers_in, channel_at, channels, IsGood, IsReady, CameFrom}
+use Rattle.rec_run.specs.Writer.{has_buffer, buffers_in, channel_at, channels, IsReady, CameFrom}
 use Rattle.rec_run.specs.Writer.{GaveBack, IsOfLines, Writes, WroteSo, TakesPiece, WroteOne}
+
+-- nothing was lost
+abbrev pub IsGood : Wrote → Type 0
+IsGood Nothing = Unit {0}
+IsGood PieceWent = Unit {0}
+IsGood (Failed fault) = ⊥
+IsGood Link = ⊥
 
 -- ---- the count of bytes
 

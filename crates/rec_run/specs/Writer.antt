@@ -47,13 +47,6 @@ buffers_in p = if has_buffer p then 1 else 0
 
 -- ---- lines
 
--- nothing was lost
-abbrev pub IsGood : Wrote → Type 0
-IsGood Nothing = Unit {0}
-IsGood PieceWent = Unit {0}
-IsGood (Failed fault) = ⊥
-IsGood Link = ⊥
-
 module _ {S : Type 0} where
   abbrev pub channel_at : WriterLine S → ℕ
   channel_at l = l.channel

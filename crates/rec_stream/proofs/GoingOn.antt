@@ -13,11 +13,12 @@ use Rattle.ch11_file.specs.declared.kind.BlockKind.{BlockKind}
 use Rattle.ch11_file.specs.declared.kind.BlockKind.TheVariants.{Setup}
 use Rattle.ch11_file.specs.declared.limits.TheConstants.{MAX_SETUP_LEN}
 use Rattle.ch11_file.specs.declared.setup.FileSetup.{FileSetup}
-use Rattle.ch11_file.specs.FileBlocks.{BlockContent, FileBlock, block_body, block_header, block_len, block_of, block_packet, file_bytes, head_with, kind_of}
+use Rattle.ch11_file.specs.FileBlocks.{BlockContent, FileBlock, block_body, block_header, block_len, block_packet, file_bytes, head_with, kind_of}
 use Rattle.ch11_file.specs.FileBlocks.BlockContent.{SetupBlock, TimeBlock, PieceBlock, NodeBlock, RootBlock}
 use Rattle.ch11_file.specs.Sending.{IsContent}
 use Rattle.ch11_file.specs.WholeFile.{AreNumbered}
 use Rattle.rec_reader.specs.Channels.{capped}
+use Rattle.ch11_file.proofs.BlocksPut.{block_of}
 use Rattle.ch11_file.proofs.GoingOut.{next_more, numbered_more}
 use Rattle.rec_stream.specs.StreamBlocks.{StreamFacts, StreamState, StreamContentGoes, StreamGoesNext, StreamGoesOut}
 use Rattle.rec_stream.specs.declared.counts.StreamCounts.{StreamCounts}

@@ -2,8 +2,8 @@ use Rattle.std.proofs.Common.{◌<◌, ◌∙◌, length, sym, subst, arith}
 use Rattle.std.proofs.Math.ListN.{set}
 use Rattle.std.proofs.Math.Seq.{map-set_same}
 use Rattle.rec_run.specs.declared.writer.Wrote.TheVariants.{Nothing, Piece as PieceWent, Failed}
-use Rattle.rec_run.specs.Writer.{channel_at, handle_at, IsGood, Writes}
-use Rattle.rec_run.proofs.Writes.{known_at, wrote_so, ready_still}
+use Rattle.rec_run.specs.Writer.{channel_at, handle_at, Writes}
+use Rattle.rec_run.proofs.Writes.{IsGood, known_at, wrote_so, ready_still}
 use Rattle.rec_run.proofs.writer.write_round.Goals as goal
 use Rattle.rec_run.proofs.writer.write_round.Goals.{in-Nothing, in-Piece}
 

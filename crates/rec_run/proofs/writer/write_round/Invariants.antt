@@ -1,6 +1,7 @@
 use Rattle.std.proofs.Common.{◌≡◌, ℕ, List, Option}
 use Rattle.rec_writer.specs.Numbers.{numbered_channels}
-use Rattle.rec_run.specs.Writer.{channels, handles, IsReady, IsGood, Writes}
+use Rattle.rec_run.specs.Writer.{channels, handles, IsReady, Writes}
+use Rattle.rec_run.proofs.Writes.{IsGood}
 use Rattle.rec_run.proofs.writer.write_round.Given as goal
 
 abbrev pub invariant-lines : goal.invariant-lines
