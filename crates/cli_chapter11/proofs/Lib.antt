@@ -1,2 +1,3 @@
 pub mod WrittenFiles
 pub mod SeenSame
+pub mod SetupStreamed

@@ -1,3 +1,4 @@
 pub mod CountsLines
 pub mod ByteSum
 pub mod WholeFiles
+pub mod SetupStreams

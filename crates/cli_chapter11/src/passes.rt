@@ -140,7 +140,7 @@ fn write_once<F: PlacedRead, W: Write + Drop>(
 }
 
 /// The names of a whole file by SETUP, with its channels and its attributes as a setup record takes them.
-fn names_of<'a>(
+pub(crate) fn names_of<'a>(
     general: &'a GeneralSettings,
     channels: &'a [SetupChannel<'a>],
     attributes: &'a [Attribute<'a>],

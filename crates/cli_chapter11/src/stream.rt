@@ -1,17 +1,19 @@
 //! The command that writes a recording as a stream.
 
-ghost use Rattle.std.specs.Prelude.{OnOk};
+ghost use Rattle.std.specs.Prelude.{ℕ, List, [], MatchResult, OnOk};
 ghost use Rattle.std.specs.Io.KnownBytes.{Appends};
+ghost use Rattle.rec_reader.specs.Readers.{HasRead};
 ghost use Rattle.cli_chapter11.specs.CountsLines.{stream_line};
+ghost use Rattle.cli_chapter11.specs.SetupStreams.{StopsBySetup, StreamsBySetup};
 
 use crate::channels::{attributes_of, channels_of};
 use crate::files::{PIECE, settings_in};
+use crate::passes::names_of;
 use ch11_clock::Clock;
 use cli_streams::{CommandEnding, STREAM, print_line, refuse_output_into_input};
 use rec_reader::Reader;
 use rec_stream::{StreamCounts, StreamEnd, write_stream};
-use rec_whole::FileNames;
-use rec_words::FileSettings;
+use rec_words::{GeneralSettings, RecordingSettings};
 use std::alloc::Global;
 use std::fs;
 use std::io::{BufReader, BufWriter, Read, Write};
@@ -28,43 +30,43 @@ pub fn stream_chapter11<'a, R: AllocGlobal + Files, I: Read, O: Write, E: Write>
 ) -> Result<(), CommandEnding<'a>> {
     refuse_output_into_input(rt)?;
     let alloc = rt.alloc();
-    let FileSettings {
-        recordings,
-        general,
-    } = settings_in(alloc, setup, fs::open(rt, setup), 1)?;
-    let recording = &recordings[0];
-    let channels = channels_of(alloc, recording.channels.as_slice())?;
-    let attributes = attributes_of(alloc, general.attributes.as_slice())?;
-    let clock = Clock::new(alloc, recording.origins.as_slice())?;
-    let names = FileNames {
-        host: general.host.as_str(),
-        program: general.program.as_str(),
-        is_external: general.is_external,
-        channels: channels.as_slice(),
-        attributes: attributes.as_slice(),
-    };
-    let counts = stream_input(alloc, &names, &clock, input, output)?;
-    print_counts(alloc, errors, counts)
-}
-
-/// Writes the recording that an input gives.
-fn stream_input<I: Read, O: Write>(
-    alloc: Global,
-    names: &FileNames<'_>,
-    clock: &Clock,
-    input: &mut I,
-    output: &mut O,
-) -> Result<StreamCounts, CommandEnding<'static>> {
+    let settings = settings_in(alloc, setup, fs::open(rt, setup), 1)?;
     let input = BufReader::with_capacity(alloc, PIECE, input).map_err(|_| CommandEnding::Memory)?;
+    let mut reader = Reader::new(alloc, input);
     let mut out = BufWriter::with_capacity(alloc, PIECE, output).map_err(
         |_| CommandEnding::Memory,
     )?;
-    let mut reader = Reader::new(alloc, input);
-    match write_stream(alloc, &mut reader, names, clock, &mut out) {
-        Ok(counts) => Ok(counts),
-        Err(end) if out.flush().is_ok() => Err(ending_of(end)),
-        Err(_) => Err(CommandEnding::File(STREAM)),
-    }
+    let counts = match stream_by(
+        alloc,
+        &settings.general,
+        &settings.recordings[0],
+        &mut reader,
+        &mut out,
+    ) {
+        Ok(counts) => counts,
+        Err(end) if out.flush().is_ok() => return Err(ending_of(end)),
+        Err(_) => return Err(CommandEnding::File(STREAM)),
+    };
+    print_counts(alloc, errors, counts)
+}
+
+/// Writes the recording that a reader gives as a stream, by what SETUP says.
+fn stream_by<R: Read, W: Write>(
+    alloc: Global,
+    general: &GeneralSettings,
+    recording: &RecordingSettings,
+    reader: &mut Reader<R>,
+    out: &mut W,
+) -> Result<StreamCounts, StreamEnd>
+    ensures { (bytes : List ℕ) → HasRead bytes [] reader.old → MatchResult result
+        (StreamsBySetup general.now recording.now bytes (W.contents out.old) (W.contents out.new))
+        (StopsBySetup general.now recording.now bytes (W.contents out.old) (W.contents out.new)) }
+{
+    let channels = channels_of(alloc, recording.channels.as_slice())?;
+    let attributes = attributes_of(alloc, general.attributes.as_slice())?;
+    let clock = Clock::new(alloc, recording.origins.as_slice())?;
+    let names = names_of(general, channels.as_slice(), attributes.as_slice());
+    write_stream(alloc, reader, &names, &clock, out)
 }
 
 /// How the command ends where the stream ended early.

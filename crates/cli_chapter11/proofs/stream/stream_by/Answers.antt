@@ -1,0 +1,36 @@
+use Rattle.std.proofs.Common.{refl, inl, ◌∙◌, map, ap}
+use Rattle.std.proofs.KnownBytes.{Appends-nil}
+use Rattle.std.proofs.lemmas.Result.{err_from_is_err_and}
+use Rattle.ch11_setup.specs.Setups.{given_attribute}
+use Rattle.rec_words.specs.SetupViews.{attribute_data, recording_data, setup_channel_data}
+use Rattle.cli_chapter11.specs.WholeFiles.{channel_said}
+use Rattle.cli_chapter11.proofs.SetupStreamed.{streamed_by}
+use Rattle.cli_chapter11.proofs.WrittenFiles.{clock_of_setup}
+use Rattle.cli_chapter11.proofs.stream.stream_by.Goals as goal
+
+pub returns-in_err-channels : goal.returns-in_err-channels
+returns-in_err-channels g c =
+    let p = err_from_is_err_and c.from_residual.result c.from_residual.ensures.1 in
+    rw (p.1, p.2) (λ bytes reads. inl (refl, Appends-nil _))
+
+pub returns-in_err-attributes : goal.returns-in_err-attributes
+returns-in_err-attributes g c =
+    let p = err_from_is_err_and c.from_residual-in_err-attributes.result c.from_residual-in_err-attributes.ensures.1 in
+    rw (p.1, p.2) (λ bytes reads. inl (refl, Appends-nil _))
+
+pub returns-in_err-clock : goal.returns-in_err-clock
+returns-in_err-clock g c =
+    let p = err_from_is_err_and c.from_residual-in_err-clock.result c.from_residual-in_err-clock.ensures.1 in
+    rw (p.1, p.2) (λ bytes reads. inl (refl, Appends-nil _))
+
+pub names_of-names-requires : goal.names_of-names-requires
+names_of-names-requires g c = ap (map given_attribute) c.as_slice-5.ensures.value
+    ∙ (c.in_ok-attributes.ensures ∙ ap (map attribute_data) c.as_slice-2.ensures.value)
+
+pub returns : goal.returns
+returns g c = λ bytes reads.
+    streamed_by c.args.general.now c.args.recording.now c.names_of-names.result _ bytes _ _ c.write_stream.result
+    (c.names_of-names.ensures (recording_data c.args.recording.now)
+    (ap (map channel_said) c.as_slice-4.ensures.value ∙ (c.in_ok-channels.ensures ∙ ap (map setup_channel_data) c.as_slice.ensures.value)))
+    (clock_of_setup c.args.recording.now c.in_ok-clock.clock _ c.in_ok-clock.ensures.held c.as_slice-3.ensures.value)
+    (c.write_stream.ensures.writes bytes reads)
