@@ -5,8 +5,8 @@ ghost use Rattle.std.specs.Io.KnownBytes.{Appends};
 ghost use Rattle.cli_chapter11.specs.CountsLines.{counts_line};
 
 use crate::files::{listing_of, open_recording, setup_in};
-use crate::passes::WholeFile;
 use crate::uncreated::Uncreated;
+use crate::whole_file::WholeFile;
 use crate::writing::{WriteEnd, judged_then_written};
 use ch11_file::FileCounts;
 use cli_streams::{CommandEnding, Inputs, LockFile, OutputFile, buffered_output, print_line};

@@ -10,6 +10,7 @@ mod passes;
 mod stream;
 mod summed;
 mod uncreated;
+mod whole_file;
 mod writing;
 
 pub use command::write_chapter11;

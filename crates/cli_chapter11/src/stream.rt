@@ -8,7 +8,7 @@ ghost use Rattle.cli_chapter11.specs.SetupStreams.{StopsBySetup, StreamsBySetup}
 
 use crate::channels::{attributes_of, channels_of};
 use crate::files::{PIECE, settings_in};
-use crate::passes::names_of;
+use crate::whole_file::names_of;
 use ch11_clock::Clock;
 use cli_streams::{CommandEnding, STREAM, print_line, refuse_output_into_input};
 use rec_reader::Reader;

@@ -24,7 +24,7 @@ use Rattle.rec_pieces.specs.declared.entry.PieceKind.TheVariants.{Frames, Record
 use Rattle.rec_pieces.specs.Entries.{packet_names, pieces_of}
 use Rattle.rec_pieces.specs.Listings.{counters_in, counters_of, frame_counter, least_of, packet_counters}
 use Rattle.rec_whole.proofs.FilesReadBack.{held_pieces}
-use Rattle.rec_stream.specs.LatePieces.{IsNear, NeverFarBack, late_one}
+use Rattle.rec_stream.specs.LatePieces.{LiesASecondBackAtMost, NeverFarBack, late_one}
 use Rattle.rec_stream.specs.StreamPieces.{StreamPiece, head_counter, is_end, pieces_naming, pieces_on, stream_counter, stream_piece, stream_pieces}
 use Rattle.rec_stream.specs.StreamBlocks.{StreamFacts, StreamState, StreamContentGoes, StreamGoesOut, StreamTimeIsNext, stream_begun}
 use Rattle.rec_stream.specs.Streams.{StreamStage, AreStream, NamedGoes, PacketsGo, PiecesGo, begun_by, first_least, first_some, late_behind, late_of}
@@ -92,7 +92,7 @@ none_counted (c ∷ cs) is = absurd (lesser_some c (least_of cs) is)
 -- ---- near counters
 
 abbrev AreNear : (counter : ℕ) → List ℕ → Type 0
-AreNear counter later = AllByRecursion (IsNear counter) later
+AreNear counter later = AllByRecursion (LiesASecondBackAtMost counter) later
 
 near_less : (less more : ℕ) (later : List ℕ) → less ≤ more → AreNear more later → AreNear less later
 near_less less more [] is all = tt

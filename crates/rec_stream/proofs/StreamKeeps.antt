@@ -141,7 +141,8 @@ pieces_counted Frames own place counter least bytes is =
 pieces_counted Record own place counter least bytes is = (refl, tt)
 pieces_counted Uncounted own place counter least bytes is = absurd (none-some least is)
 
-counted_packet : (channel : ℕ) (names : Option (ℕ × PieceKind)) (place counter least : ℕ) (bytes : List ℕ) → least_of (counters_in names counter bytes) ≡ Some least
+counted_packet : (channel : ℕ) (names : Option (ℕ × PieceKind)) (place counter least : ℕ) (bytes : List ℕ)
+    → least_of (counters_in names counter bytes) ≡ Some least
     → AllByRecursion IsCounted (flat_map held_in (pieces_named channel names place counter bytes))
 counted_packet channel None place counter least bytes is = tt
 counted_packet channel (Some (own, kind)) place counter least bytes is = here (own == channel)

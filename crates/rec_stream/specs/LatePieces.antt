@@ -8,10 +8,10 @@ abbrev pub late_one : (greatest counter : ℕ) → ℕ
 late_one greatest counter = if nat_lt (counter + MAX_TICKS_BACK) greatest then 1 else 0
 
 -- a later counter isn't over a second less
-abbrev pub IsNear : (counter later : ℕ) → Type 0
-IsNear counter later = counter ≤ later + MAX_TICKS_BACK
+abbrev pub LiesASecondBackAtMost : (counter later : ℕ) → Type 0
+LiesASecondBackAtMost counter later = counter ≤ later + MAX_TICKS_BACK
 
 -- none of these counters is over a second less than one ahead of it
 abbrev pub NeverFarBack : List ℕ → Type 0
 NeverFarBack [] = Unit {0}
-NeverFarBack (counter ∷ later) = AllByRecursion (IsNear counter) later × NeverFarBack later
+NeverFarBack (counter ∷ later) = AllByRecursion (LiesASecondBackAtMost counter) later × NeverFarBack later

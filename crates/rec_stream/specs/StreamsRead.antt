@@ -30,8 +30,8 @@ abbrev pub if_uncounted : Held → List Held
 if_uncounted held = if has_counter held then [] else held ∷ []
 
 -- those that have a counter, in order, and those that have none
-abbrev pub counted : List Held → List Held
-counted held = flat_map if_counted held
+abbrev pub with_counters : List Held → List Held
+with_counters held = flat_map if_counted held
 
-abbrev pub uncounted : List Held → List Held
-uncounted held = flat_map if_uncounted held
+abbrev pub without_counters : List Held → List Held
+without_counters held = flat_map if_uncounted held

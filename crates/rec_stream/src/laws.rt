@@ -14,11 +14,11 @@ ghost use Rattle.rec_reader.specs.Reading.{Reads};
 ghost use Rattle.rec_reader.specs.ChannelFrames.{channel_frames};
 ghost use Rattle.rec_whole.specs.WholeFrames.{file_frames, held_in_packets};
 ghost use Rattle.rec_pieces.specs.Listings.{counters_of};
-ghost use Rattle.rec_stream.specs.LatePieces.{IsNear, NeverFarBack};
+ghost use Rattle.rec_stream.specs.LatePieces.{LiesASecondBackAtMost, NeverFarBack};
 ghost use Rattle.rec_stream.specs.StreamBlocks.{StreamFacts, StreamState};
 ghost use Rattle.rec_stream.specs.Streams.{StreamStage, AreStream, first_least, late_behind};
 ghost use Rattle.rec_stream.specs.Streams.StreamStage.{Begun};
-ghost use Rattle.rec_stream.specs.StreamsRead.{HasSetupText, counted, uncounted};
+ghost use Rattle.rec_stream.specs.StreamsRead.{HasSetupText, with_counters, without_counters};
 
 use rec_pieces::pieces_hold_the_frames_of_a_channel;
 use rec_reader::bytes_have_one_reading;
@@ -41,10 +41,10 @@ pub fn a_stream_keeps_each_channel()
         → file_frames channel blocks ≡ channel_frames channel packets }
     ensures counted { (facts : StreamFacts) (packets : List PacketData) (blocks : List FileBlock) (stage : StreamStage)
         → AreStream facts packets blocks stage → (channel : ℕ)
-        → counted (held_of channel (merged_in blocks)) ≡ counted (held_in_packets channel packets) }
+        → with_counters (held_of channel (merged_in blocks)) ≡ with_counters (held_in_packets channel packets) }
     ensures uncounted { (facts : StreamFacts) (packets : List PacketData) (blocks : List FileBlock) (state : StreamState)
         → AreStream facts packets blocks (Begun state) → (channel : ℕ)
-        → uncounted (held_of channel (merged_in blocks)) ≡ uncounted (held_in_packets channel packets) }
+        → without_counters (held_of channel (merged_in blocks)) ≡ without_counters (held_in_packets channel packets) }
 {
     pieces_hold_the_frames_of_a_channel();
 }
@@ -72,7 +72,7 @@ pub fn no_piece_of_a_steady_stream_is_late()
     ensures { (facts : StreamFacts) (packets : List PacketData) (blocks : List FileBlock) (stage : StreamStage)
         → AreStream facts packets blocks stage → NeverFarBack (counters_of packets)
         → IfSome (first_least packets) (λ (least : ℕ). (moment : ℤ) (tick : ℕ)
-        → IsFirstTime least facts.rules moment tick → AllByRecursion (IsNear tick) (counters_of packets))
+        → IsFirstTime least facts.rules moment tick → AllByRecursion (LiesASecondBackAtMost tick) (counters_of packets))
         → late_behind 0 blocks ≡ 0 }
 {}
 

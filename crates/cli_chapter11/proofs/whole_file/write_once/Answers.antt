@@ -8,7 +8,7 @@ use Rattle.rec_whole.specs.WholeRecordings.{WholeFails, WritesRecording}
 use Rattle.rec_words.specs.SetupViews.{attribute_data, recording_data, setup_channel_data}
 use Rattle.cli_chapter11.specs.WholeFiles.{channel_said}
 use Rattle.cli_chapter11.proofs.WrittenFiles.{clock_of_setup}
-use Rattle.cli_chapter11.proofs.passes.write_once.Goals as goal
+use Rattle.cli_chapter11.proofs.whole_file.write_once.Goals as goal
 
 pub returns-in_err-channels : goal.returns-in_err-channels
 returns-in_err-channels g c =
