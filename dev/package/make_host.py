@@ -1,5 +1,5 @@
 #!/usr/bin/env python3
-"""Makes one file of the Python tools, host/bpfrec_host: `FILE info` runs the tool info, and so on.
+"""Makes one file of the Python tools, host/bpfrec_host with host/second: `FILE info` runs the tool info, and so on.
 
 FILE is an archive that Python runs. Beside each module it has what this Python compiles of it, which another version
 passes over. The same sources make the same bytes: the files stand by their names, and have one time.
@@ -15,7 +15,8 @@ import zipapp
 import zipfile
 from pathlib import Path
 
-PACKAGE = Path(__file__).resolve().parents[2] / "host" / "bpfrec_host"
+HOST = Path(__file__).resolve().parents[2] / "host"
+PACKAGES = ("bpfrec_host", "second")
 # No modules of the caller's folder, and none that the environment names.
 INTERPRETER = "/usr/bin/python3 -I"
 MAIN = """import sys
@@ -27,7 +28,7 @@ from bpfrec_host.__main__ import main
 
 sys.exit(main())
 """
-# Of the package: its modules, and the page that they serve.
+# Of the packages: their modules, and the page that they serve.
 SUFFIXES = (".py", ".html")
 # The earliest that an archive can have, and what may be done with its files.
 TIME, MODE = (1980, 1, 1, 0, 0, 0), 0o644 << 16
@@ -44,9 +45,9 @@ def compiled(source: bytes, name: str) -> bytes:
 
 
 def archive() -> io.BytesIO:
-    """The archive of the package and of what calls it."""
-    parts = [it for it in PACKAGE.rglob("*") if it.suffix in SUFFIXES]
-    files = {f"{PACKAGE.name}/{it.relative_to(PACKAGE)}": it.read_bytes() for it in parts}
+    """The archive of the packages and of what calls them."""
+    parts = [it for name in PACKAGES for it in (HOST / name).rglob("*") if it.suffix in SUFFIXES]
+    files = {f"{it.relative_to(HOST)}": it.read_bytes() for it in parts}
     files |= {f"{name}c": compiled(text, name) for name, text in files.items() if name.endswith(".py")}
     made = io.BytesIO()
     # Not compressed, so that no version of a library is in its bytes.

@@ -11,9 +11,8 @@ from bpfrec_host.formats import ch11
 from bpfrec_host.formats.ch11.body import record_in
 from bpfrec_host.formats.ch11.follow import Front
 from bpfrec_host.formats.ch11.packet import Header, header_or_fault
-from bpfrec_host.formats.limits import HEADER_LEN
-from bpfrec_host.formats.whole_file.as_facts import is_own
-from bpfrec_host.formats.whole_file.packets import MOST_LENGTH, MOST_SETUP_LENGTH
+from bpfrec_host.formats.limits import HEADER_LEN, MAX_ETHERNET_PACKET_LEN
+from bpfrec_host.formats.whole_file import MOST_SETUP_LENGTH, SETUP, is_own
 from bpfrec_host.pcapng.index import Index, Place
 
 
@@ -68,11 +67,11 @@ class Contents(Index):
         if self.whole is None or not is_own(front.header.kind):
             super().take(front)
             return
-        length = front.header.packet_len
-        most = MOST_LENGTH if front.header.channel else MOST_SETUP_LENGTH
-        kind = "Length" if length > most else self.whole.take(front, self.read_at(front.at, length))
-        if kind:
-            self.note(front.at, kind, length)
+        header = front.header
+        if header.packet_len > (MAX_ETHERNET_PACKET_LEN if header.channel else MOST_SETUP_LENGTH):
+            self.note(front.at, "Length", header.packet_len)
+        elif not self.whole.take(header, self.read_at(front.at, header.packet_len)):
+            self.note(front.at, "Setup" if header.kind == SETUP else "Time", header.packet_len)
 
     def take_record(self, header: Header, packet: bytes) -> None:
         """Notes a record, and of a program the counter."""

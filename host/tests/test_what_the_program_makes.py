@@ -5,6 +5,7 @@ from __future__ import annotations
 import ast
 import importlib
 import struct
+import sys
 from collections.abc import Iterator
 from pathlib import Path
 
@@ -23,7 +24,7 @@ MAKER, ITS_MODULE, MAY_MAKE = "header_bytes", "bpfrec_host.formats.ch11.packet",
 # What begins lines of a setup record's text, and who has such: its reader, and options, which refuse its names.
 OF_SETUP_RECORDS = ("R-1\\", "G\\")
 MAY_NAME_LINES = {
-    "bpfrec_host.formats.whole_file.setup_record": "reads them",
+    "bpfrec_host.formats.whole_file": "reads them",
     "bpfrec_host.chapter11.options": "refuses them",
     "bpfrec_host.publish.recording": "has the comment of a stream's attributes",
 }
@@ -89,6 +90,15 @@ def test_none_makes_the_text_of_a_setup_record() -> None:
         if any(it.startswith(OF_SETUP_RECORDS) for it in texts):
             found.add(name_of(path))
     judge("its lines stand with those who read them", found <= set(MAY_NAME_LINES), found - set(MAY_NAME_LINES))
+
+
+def test_the_second_opinion_imports_nothing_but_itself() -> None:
+    """And nothing of the rest has its readers, but bpfrec check, which asks it."""
+    paths = [*(HOST / "second").glob("*.py"), HOST / "second/check_sums"]
+    names = {module.partition(".")[0] for path in paths for module, _ in imported(path)}
+    judge("the standard library", names <= {*sys.stdlib_module_names, "second"}, names)
+    askers = {name_of(path) for path in MODULES if any(it.startswith("second") for it, _ in imported(path))}
+    judge("who asks it", askers == {"bpfrec_host.check.command"}, askers)
 
 
 def test_what_is_published_is_looked_into_for_lengths_alone() -> None:

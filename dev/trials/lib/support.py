@@ -25,7 +25,7 @@ COMMAND, TOOLS = ROOT / "host/bin/bpfrec", ROOT / "dev/trials/lib/tools"
 LIVE, CONVERT, INFO, EXPORT, SALVAGE, PREFLIGHT = (
     TOOLS / name for name in ("live", "convert", "info", "export", "salvage", "preflight")
 )
-CHECK, CHECK_CH10 = TOOLS / "check", TOOLS / "check_ch10"
+CHECK, CHECK_SUMS = TOOLS / "check", ROOT / "host/second/check_sums"
 # What a trial may want that a build makes.
 BUILT = {"bin/bpfrec": BPFREC, "bin/capture": CAPTURE}
 # The modules and C files that trials share, and the scripts of hours.

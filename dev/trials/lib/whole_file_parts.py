@@ -7,9 +7,9 @@ import random
 from collections.abc import Callable, Iterable
 from typing import Any, NamedTuple
 
-from bpfrec_host.formats.whole_file import Check
 from drawn_recording import DrawnRecording, drawn_insns
 from frames import packet_of
+from second import Check
 from whole_file import INDEX, MOST_NAMED, File, Origin, Setup, packets_in, whole_file
 
 SECOND = 10_000_000

@@ -69,7 +69,8 @@ def test_a_reader_that_leaves_ends_it_where_there_is_no_out(work: Path, has_out:
     receiver.stdout.close()
     send(path, f"127.0.0.1:{port}")
     if has_out:
-        wait_for("it goes on", lambda: (work / "ground.ch10").stat().st_size == len(stream_of(path).file.data))
+        out, wanted = work / "ground.ch10", bytes(stream_of(path).file.data)
+        wait_for("it goes on", lambda: out.exists() and out.read_bytes() == wanted)
         receiver.send_signal(signal.SIGTERM)
     wait_for("it ends", lambda: receiver.poll() is not None)
     assert receiver.stderr

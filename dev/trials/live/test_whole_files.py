@@ -11,7 +11,7 @@ from frames import numbers_in, records
 from ground import Station
 from namespace import send_numbered
 from recordings import Traffic, begin, extracted, is_approved, nothing_left, parts_of, recordings, settings_of
-from support import BPFREC, CHECK_CH10, LIVE, Running, judge, judge_quietly, outcome, wait_for
+from support import BPFREC, CHECK_SUMS, LIVE, Running, judge, judge_quietly, outcome, wait_for
 
 WANTED = {"bin/bpfrec": "make build", "bin/capture": "make build", "ip": "iproute2"}
 pytestmark = [pytest.mark.timed, pytest.mark.usefixtures("namespace")]
@@ -28,7 +28,7 @@ def in_work(out: Path) -> Path:
 
 def judge_whole(work: Path, out: Path) -> None:
     """The file beside a recording is right, and has its frames."""
-    done = outcome(CHECK_CH10, whole_file(out))
+    done = outcome(CHECK_SUMS, whole_file(out))
     judge_quietly(f"{out.name}: it is right", done.returncode == 0, done.stdout[-300:])
     for channel in (1, 2):
         feeds = [extracted(work, it, channel) for it in (out, whole_file(out))]

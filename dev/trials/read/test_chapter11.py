@@ -11,7 +11,7 @@ import pytest
 from drawn_recording import DrawnRecording, drawn_insns
 from frames import FRAMES, body_of, packet_of
 from reading import SAMPLES
-from support import CHECK_CH10, judge, judge_quietly, outcome
+from support import CHECK_SUMS, judge, judge_quietly, outcome
 from whole_file import Origin, Setup
 from whole_file_trials import chapter11, judge_file
 
@@ -25,7 +25,7 @@ NOW = Setup((Origin(0, ORIGIN),))
 
 
 def checked(work: Path) -> tuple[int, str]:
-    done = outcome(CHECK_CH10, work / "flight.ch10", seconds=300)
+    done = outcome(CHECK_SUMS, work / "flight.ch10", seconds=300)
     return done.returncode, done.stdout + done.stderr
 
 
@@ -34,7 +34,7 @@ def judge_whole(work: Path, what: str, data: bytes, setup: Setup = NOW) -> str:
     line = judge_file(work, what, data, setup)
     judge_quietly(f"{what}: not refused", line.startswith("times "), line)
     status, told = checked(work)
-    judge_quietly(f"{what}: as check_ch10 reads it", status == 0 and told.endswith(" wrong 0\n"), told[-300:])
+    judge_quietly(f"{what}: as check_sums reads it", status == 0 and told.endswith(" wrong 0\n"), told[-300:])
     return line
 
 

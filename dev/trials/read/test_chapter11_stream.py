@@ -14,7 +14,7 @@ from drawn_recording import DrawnRecording, drawn_insns
 from frames import COMPUTER, FRAMES, body_of, packet_of
 from reading import SAMPLES
 from streamed import Stream
-from support import BPFREC, CHECK_CH10, judge, judge_quietly, outcome
+from support import BPFREC, CHECK_SUMS, judge, judge_quietly, outcome
 from whole_file import Origin, Refused, Setup, packets_in
 from whole_file_trials import setup_text
 
@@ -176,8 +176,8 @@ def test_a_reader_approves_it(work: Path, seed: int) -> None:
     made = drawn(draw, [1, 2, 3], 0, 30, 0)
     done = streamed(work, bytes(made.data), NOW)
     (work / "stream.ch10").write_bytes(done.stdout)
-    told = outcome(CHECK_CH10, work / "stream.ch10")
-    judge("check_ch10", told.returncode == 0 and told.stdout.endswith(" wrong 0\n"), told)
+    told = outcome(CHECK_SUMS, work / "stream.ch10")
+    judge("check_sums", told.returncode == 0 and told.stdout.endswith(" wrong 0\n"), told)
 
 
 # ---- as it grows

@@ -16,7 +16,7 @@ from reading import SAMPLES
 from recorder import make_feed, write_settings
 from support import (
     CHECK,
-    CHECK_CH10,
+    CHECK_SUMS,
     EXPORT,
     INFO,
     LIVE,
@@ -37,7 +37,7 @@ FULL, CLOSED = "No space left on device", "Bad file descriptor"
 PRINTING = (
     "chapter11",
     "check",
-    "check_ch10",
+    "check_sums",
     "info",
     "info_json",
     "pcapng",
@@ -45,7 +45,7 @@ PRINTING = (
     "preflight",
     "follow",
 )
-WAITING = ("check", "check_ch10", "info", "pcapng", "salvage")
+WAITING = ("check", "check_sums", "info", "pcapng", "salvage")
 SECONDS = 60
 # What Python itself may say in place of MemoryError, of sources that it knows to be right; hashlib logs what it can't load.
 FAULTS_OF_PYTHON = ("SystemError: error return without exception set", "SyntaxError: ", "ERROR:root:code for hash ")
@@ -58,7 +58,7 @@ def name_of(tool: str) -> str:
         "pcapng": "export",
         "chapter11": "export",
     }
-    return tool if tool == "check_ch10" else f"bpfrec {verb.get(tool, tool)}"
+    return tool if tool == "check_sums" else f"bpfrec {verb.get(tool, tool)}"
 
 
 def words_of(work: Path, tool: str, given: Path | None = None) -> list:
@@ -69,7 +69,7 @@ def words_of(work: Path, tool: str, given: Path | None = None) -> list:
     words: dict[str, list[object]] = {
         "chapter11": [EXPORT, "--print-setup", "--origin", "0", recording],
         "check": [CHECK, "--no-audit", recording],
-        "check_ch10": [CHECK_CH10, recording],
+        "check_sums": [CHECK_SUMS, recording],
         "info": [INFO, recording],
         "info_json": [INFO, "--json", recording],
         # It reads regular files alone, so it is its OUT that it waits for.

@@ -13,11 +13,11 @@ from bpfrec_host import printing
 from bpfrec_host.arguments import Parser, name_of
 from bpfrec_host.check.judge import Judge
 from bpfrec_host.check.order import in_order
-from bpfrec_host.check.sums import check_sums
 from bpfrec_host.check.verifier import verifier_of
 from bpfrec_host.formats.runs import all_of
 from bpfrec_host.program import audit_of
 from bpfrec_host.streams import STREAM, Refused, Taken, identity, input_at, refuse_twice
+from second.sums import check_sums
 
 ABOUT = """\
 Says yes or no of recordings, of a run or of whole Chapter 11 files: whether each is what it says. It judges the sums of

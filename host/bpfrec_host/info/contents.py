@@ -227,7 +227,7 @@ class Recording:
         self.bytes += len(piece.bytes)
         if not piece.at and begins_whole_file(piece.bytes):
             self.whole = whole_file.WholeFile()
-        self.kinds[self.whole.take(piece) if self.whole and what is None else KINDS[type(what)]] += 1
+        self.kinds[self.whole.take_packet(piece) if self.whole and what is None else KINDS[type(what)]] += 1
         self.follow(piece)
         if isinstance(what, ch11.Frames):
             self.take_frames(header.channel, what)

@@ -13,8 +13,7 @@ from bpfrec_host.formats.ch11.body import BadBody, What
 from bpfrec_host.formats.ch11.follow import Follower, Front
 from bpfrec_host.formats.ch11.packet import body_fault, has_right_sum, header_of
 from bpfrec_host.formats.limits import ETHERNET_DATA, HEADER_LEN
-from bpfrec_host.formats.whole_file.as_facts import WholeFile, is_own
-from bpfrec_host.formats.whole_file.packets import MOST_SETUP_LENGTH, begins_whole_file
+from bpfrec_host.formats.whole_file import MOST_SETUP_LENGTH, WholeFile, begins_whole_file, is_own
 from bpfrec_host.streams import STREAM, Refused, part_of
 
 # A record of a program is far shorter; a longer packet is another recorder's.
@@ -110,7 +109,7 @@ class Index:
             return
         if self.whole and is_own(header.kind) and header.packet_len <= MOST_SETUP_LENGTH:
             # One that can't be read says nothing.
-            self.whole.take(front, self.read_at(front.at, header.packet_len))
+            self.whole.take(header, self.read_at(front.at, header.packet_len))
         elif header.kind == ETHERNET_DATA:
             channel = self.channel(header.channel)
             channel.packets.append(Place(header.counter, front.at, header.packet_len, len(channel.programs) - 1))

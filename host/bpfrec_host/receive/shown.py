@@ -8,12 +8,10 @@ from typing import BinaryIO, Optional
 
 from bpfrec_host.follow.view import View, moment_in
 from bpfrec_host.formats.ch11.body import Frames, Program
-from bpfrec_host.formats.ch11.follow import Front
 from bpfrec_host.formats.ch11.packet import Header
 from bpfrec_host.formats.facts import Facts, NoFacts
 from bpfrec_host.formats.limits import HEADER_LEN
-from bpfrec_host.formats.whole_file import SETUP
-from bpfrec_host.formats.whole_file.as_facts import WholeFile, is_own
+from bpfrec_host.formats.whole_file import SETUP, WholeFile, is_own
 from bpfrec_host.pcapng.index import body_of
 
 
@@ -24,8 +22,7 @@ class Shown:
         self.out = out
         self.view = View(verb, out, [])
         self.whole, self.text = WholeFile(), b""
-        # The names of channels, and the times by the time packets so far.
-        self.names: dict[int, str] = {}
+        # The times by the time packets so far.
         self.known: Optional[Facts] = None
         self.has_reader = True
 
@@ -46,8 +43,7 @@ class Shown:
         if header.kind == SETUP and packet[HEADER_LEN:] != self.text:
             self.whole, self.text = WholeFile(), packet[HEADER_LEN:]
         before = len(self.whole.clocks)
-        self.whole.take(Front(0, header, packet), packet)
-        self.names = self.whole.names() if header.kind == SETUP else self.names
+        self.whole.take(header, packet)
         if len(self.whole.clocks) > before:
             # Times that no facts have are those of none.
             with suppress(NoFacts):
@@ -67,7 +63,7 @@ class Shown:
 
     def name(self, channel: int) -> str:
         """What the setup record calls a channel."""
-        return self.names.get(channel) or f"channel {channel}"
+        return self.whole.names().get(channel) or f"channel {channel}"
 
     def flush(self) -> None:
         """Has the reader see what was shown."""

@@ -4,21 +4,11 @@ from __future__ import annotations
 
 from typing import BinaryIO, Callable, Iterator, Optional
 
-from bpfrec_host.formats.whole_file.contents import Clock, Frame, clock_in, frame_faults, frames_in, record_in
-from bpfrec_host.formats.whole_file.index import MOST_NAMED, Index, is_index
-from bpfrec_host.formats.whole_file.order import Order, Placed, Turn
-from bpfrec_host.formats.whole_file.packets import (
-    FRAMES,
-    OWN_CHANNEL,
-    RECORD,
-    SETUP,
-    TIME,
-    Packet,
-    Unread,
-    Wrong,
-    packets_of,
-)
-from bpfrec_host.formats.whole_file.setup_record import Setup, setup_faults
+from second.contents import Clock, Frame, clock_in, frame_faults, frames_in, record_in
+from second.index import MOST_NAMED, Index, is_index
+from second.order import Order, Placed, Turn
+from second.packets import FRAMES, OWN_CHANNEL, RECORD, SETUP, TIME, Packet, Unread, Wrong, packets_of
+from second.setup_record import Setup, setup_faults
 
 Faults = Iterator[str]
 

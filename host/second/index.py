@@ -5,7 +5,7 @@ from __future__ import annotations
 import struct
 from typing import Iterator, NamedTuple, Optional
 
-from bpfrec_host.formats.whole_file.packets import INDEX, Packet, Wrong
+from second.packets import INDEX, Packet, Wrong
 
 # Entries of a node, and nodes of a root.
 MOST_NAMED = 16_384

@@ -5,7 +5,7 @@ from __future__ import annotations
 import re
 from typing import Iterator, NamedTuple, Optional, Union
 
-from bpfrec_host.formats.whole_file.packets import FRAMES, TIME, Wrong
+from second.packets import FRAMES, TIME, Wrong
 
 # RCC 106-17, in ASCII.
 WORD = bytes((0x0C, 0, 0, 0))

@@ -11,7 +11,7 @@ from fractions import Fraction
 import pytest
 from drawn_recording import DrawnRecording
 from reading import SAMPLES
-from support import CHECK_CH10, judge, judge_quietly
+from support import CHECK_SUMS, judge, judge_quietly
 from whole_file import TIME, Origin, Refused, Rule, Setup, rules_of, whole_file
 from whole_file_parts import ORIGIN, SECOND, bytes_of, parts_of, recorded, sample, without
 
@@ -23,7 +23,7 @@ ONE_SUM = "bc7788fb6bd5a9b95dc6af282ea8a3d1a4b274476766c991a927b7373ea32e74"
 
 def checked(data: bytes, *options: str) -> tuple[int, list[str]]:
     """How the tool ends, and the lines that it prints."""
-    done = subprocess.run([CHECK_CH10, *options, "-"], input=data, capture_output=True, timeout=60)
+    done = subprocess.run([CHECK_SUMS, *options, "-"], input=data, capture_output=True, timeout=60)
     return done.returncode, done.stdout.decode().splitlines()
 
 

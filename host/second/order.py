@@ -5,8 +5,8 @@ from __future__ import annotations
 from bisect import bisect_right
 from typing import Iterator, NamedTuple, Optional
 
-from bpfrec_host.formats.whole_file.contents import TICKS_A_HUNDREDTH, TICKS_A_SECOND, Clock
-from bpfrec_host.formats.whole_file.packets import INDEX, SETUP, TIME, Packet
+from second.contents import TICKS_A_HUNDREDTH, TICKS_A_SECOND, Clock
+from second.packets import INDEX, SETUP, TIME, Packet
 
 # How far behind the greatest counter a header may be, and from a time packet on whatever follows it.
 MOST_BEHIND, MOST_AHEAD = TICKS_A_SECOND, TICKS_A_SECOND + 1

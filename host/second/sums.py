@@ -1,15 +1,11 @@
-"""The sums of a recording: the header checksum of each packet, and each data checksum of 32 bits.
-
-It was written from docs/user/formats/recording.md alone and shares no code with the recorder, the reader and the other
-tools, so it is a second opinion on every sum. Of a whole Chapter 11 file all is checked that the standard asks for.
-"""
+"""The sums of a recording: the header checksum of each packet, and each data checksum of 32 bits."""
 
 from __future__ import annotations
 
 import struct
 from typing import BinaryIO, Callable, Optional
 
-from bpfrec_host.formats.whole_file import Check
+from second.check import Check
 
 SYNC = 0xEB25
 # The type of a setup record, and where a header has it.

@@ -6,7 +6,7 @@ import datetime
 import struct
 from typing import NamedTuple, Optional
 
-from bpfrec_host.formats.whole_file.packets import Packet, Wrong
+from second.packets import Packet, Wrong
 
 EPOCH = datetime.date(1970, 1, 1).toordinal()
 # Ticks of the counter, of 100 ns, and hundredths of a second, in which time packets say the time.
