@@ -138,9 +138,9 @@ def large_input() -> bytes:
     return packet_of(1, frames, 0, 0x68, 0, True) * 5
 
 
-@pytest.mark.parametrize("tool", [it for it in WAITING if it not in ("check", "pcapng")])
+@pytest.mark.parametrize("tool", [it for it in WAITING if it not in ("check", "check_sums", "pcapng")])
 def test_out_of_memory_is_said_in_a_line(work: Path, tool: str) -> None:
-    """Memory ends when the input begins. check takes none for what it reads."""
+    """Memory ends when the input begins. check and check_sums take none for what they read."""
     running, pipe = begin_waiting(work, tool)
     size = int(Path(f"/proc/{running.pid}/statm").read_text().split()[0]) * resource.getpagesize()
     resource.prlimit(running.pid, resource.RLIMIT_AS, (size + MEBIBYTE // 8, size + MEBIBYTE // 8))
