@@ -36,17 +36,12 @@ where
     R::File: Send + LockFile,
     R::Dir: Send,
 {
-    let mut inputs = Inputs::new(rt.alloc());
+    let alloc = rt.alloc();
+    let mut inputs = Inputs::new(alloc);
     let wanted = read_settings(rt, settings, &mut inputs)?;
     let (ring, version) = (wanted.ring, wanted.version);
     let files = NamedFiles { rt };
-    let jobs = jobs_of(
-        rt.alloc(),
-        &files,
-        wanted.limit,
-        wanted.channels,
-        &mut inputs,
-    )?;
+    let jobs = jobs_of(alloc, &files, wanted.limit, wanted.channels, &mut inputs)?;
     if !jobs_ok(jobs.as_slice()) {
         return Err(CommandEnding::Settings(SettingsFault::Channels));
     }
@@ -57,7 +52,7 @@ where
     inputs.refuse_output(rt, out)?;
     let file = create_output(rt, &inputs, out)?;
     let created = AnnouncedOutput::new(rt, errors, Retried { file });
-    match record(rt, rt.alloc(), jobs, ring, version, control, created) {
+    match record(rt, alloc, jobs, ring, version, control, created) {
         Ok(
             Done {
                 report,
@@ -66,17 +61,11 @@ where
             },
         ) => {
             recorded.keep().map_err(|_| CommandEnding::File(out))?;
-            print_report(rt.alloc(), output, &report)?;
+            print_report(alloc, output, &report)?;
             control.outcome()
         }
         Err(RunFault::Memory) => Err(CommandEnding::Memory),
-        Err(
-            RunFault::Write {
-                fault,
-                out: recorded,
-                ..
-            },
-        ) => Err(recorded.ending(output_fault(fault))),
+        Err(RunFault::Write { fault, out, .. }) => Err(out.ending(output_fault(fault))),
         Err(RunFault::Link) => Err(CommandEnding::Recording(RecordingFault::Link)),
         Err(RunFault::History) => Err(CommandEnding::Recording(RecordingFault::History)),
     }
