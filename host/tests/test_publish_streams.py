@@ -3,6 +3,7 @@ played: its packets are the recording's own."""
 
 from __future__ import annotations
 
+import os
 import random
 import time
 from pathlib import Path
@@ -246,6 +247,18 @@ def test_a_stream_that_ends_early_says_why(work: Path, monkeypatch: pytest.Monke
             played.sent()
         judge(why, str(told.value) == f"{played.path}: {why}", told.value)
         judge_quietly("the recording stays", played.path.read_bytes() == data)
+
+
+def test_a_recording_that_is_cut_meanwhile_is_said(work: Path, monkeypatch: pytest.MonkeyPatch) -> None:
+    played = Played(work, monkeypatch)
+    played.frames(1, 7)
+    played.frames(1, 8)
+    cut = len(played.write()) // 2
+    streaming = played.begin()
+    streaming.recording.read_on()
+    os.truncate(played.path, cut + 30)
+    with pytest.raises(Broken, match=f"read 1 Truncated {cut}"):
+        played.sent()
 
 
 def test_what_nobody_knows_the_time_of_is_refused(work: Path, monkeypatch: pytest.MonkeyPatch) -> None:

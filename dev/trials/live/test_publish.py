@@ -256,17 +256,18 @@ def test_a_clock_that_is_set_begins_another_stream(work: Path) -> None:
     receiver, station = Receiver(work, "ground.ch10", f"127.0.0.1:{port}"), Station()
     addresses = (f"127.0.0.1:{port}", station.address)
     publishers = [subprocess.Popen([PUBLISH, path, it], stderr=subprocess.PIPE, text=True) for it in addresses]
-    wait_for("it is sent", lambda: len(parts_of(packets_in(station.datagrams))) > 5)
-    before = len(packets_in(station.datagrams))
+    sent = len(stream_of(path).file.data)
+    wait_for("it is sent", lambda: len(packets_in(station.datagrams)) == sent == receiver.out.stat().st_size)
     write_facts(path, Setup(origins, channels={}), "recording")
     made.add_frames(1, [(30_000_000, 0, 60)])
     with open(path, "ab") as file:
-        file.write(bytes(made.data)[path.stat().st_size :])
-    wait_for("more is sent", lambda: len(packets_in(station.datagrams)) > before)
+        file.write(made.data[path.stat().st_size :])
+    wait_for("more is sent", lambda: len(packets_in(station.datagrams)) > sent)
+    wait_for("and is in a file of its own", (work / "ground_00002.ch10").exists)
     for publisher in publishers:
         publisher.terminate()
         judge_quietly("it ends well", publisher.wait(30) == 0)
-    later = parts_of(packets_in(station.close())[before:])
+    later = parts_of(packets_in(station.close())[sent:])
     setups = [it for it in later if it.kind == SETUP]
     judge("a setup record, from 0 on", len(setups) == 1 and later[0] == setups[0]._replace(sequence=0), later[0])
     judge("with its place", b"G\\COM:flight.ch11;\r\nG\\COM:from byte " in setups[0].data, setups[0].data)
@@ -274,7 +275,6 @@ def test_a_clock_that_is_set_begins_another_stream(work: Path) -> None:
     times = [it.data for it in later if it.kind == TIME]
     judge("a time of the new origin", last.counter == 30_000_000 and times[-1][6:8] == b"\x00\x13", times[-1].hex())
     judge_quietly("it is received", receiver.ended()[0] == 0)
-    judge("in a file of its own", (work / "ground_00002.ch10").exists())
 
 
 def test_one_that_has_ended_goes_out_at_the_pace_of_its_counters(work: Path) -> None:

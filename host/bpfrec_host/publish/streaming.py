@@ -3,6 +3,7 @@
 from __future__ import annotations
 
 import time
+from itertools import islice
 from typing import Optional
 
 from bpfrec_host.formats.facts import Origin
@@ -10,8 +11,8 @@ from bpfrec_host.publish.datagrams import Datagrams
 from bpfrec_host.publish.recording import Placed, Recording
 from bpfrec_host.publish.stream import Broken, Stream
 
-# How much is read of the recording at once, and how often one looks for more, in seconds.
-PIECE, PAUSE = 1 << 18, 0.015
+# How much is read of the recording at once, of how many packets, and how often one looks for more, in seconds.
+PIECE, MOST_AT_ONCE, PAUSE = 1 << 18, 256, 0.015
 
 
 class Streaming:
@@ -20,7 +21,8 @@ class Streaming:
     def __init__(self, recording: Recording, datagrams: Datagrams) -> None:
         self.recording, self.datagrams = recording, datagrams
         self.stream: Optional[Stream] = None
-        # By what the stream was begun.
+        # By what the stream was begun, and where in the recording.
+        self.at = 0
         self.channels: dict[int, int] = {}
         self.origins: list[Origin] = []
         # How many bytes of the next packet it has taken, and whether it takes no more by now.
@@ -51,18 +53,34 @@ class Streaming:
         return PAUSE
 
     def write(self) -> None:
-        """Writes the next packet into its stream, as far as that takes it."""
+        """Writes what can go into the stream at once, as far as that takes it."""
         if not self.written and not self.is_of_stream(self.recording.waiting[0]):
             self.begin()
-        placed = self.recording.waiting[0]
-        data = self.recording.read_at(placed.at + self.written, min(placed.length - self.written, PIECE))
+        begin = self.recording.waiting[0].at + self.written
+        data = self.recording.read_at(begin, min(self.end_of_part() - begin, PIECE))
+        if not data:
+            raise Broken(f"{self.recording.path}: read 1 Truncated {self.recording.place()}")
         assert self.stream
         taken = self.stream.write(data)
-        self.written += taken
         self.is_full = taken < len(data)
-        if self.written == placed.length:
-            self.written = 0
-            self.recording.pass_by(self.recording.waiting.popleft())
+        self.written += taken
+        waiting = self.recording.waiting
+        while waiting and self.written >= waiting[0].length:
+            self.written -= waiting[0].length
+            self.recording.pass_by(waiting.popleft())
+
+    def end_of_part(self) -> int:
+        """The place up to which packets follow one another that are due and go into the same stream: what is written at
+        once comes out at once. It isn't looked for further than what is read at once."""
+        packets = islice(self.recording.waiting, MOST_AT_ONCE)
+        first = next(packets)
+        end = first.at + first.length
+        for placed in packets:
+            is_next = placed.at == end and end < first.at + PIECE
+            if not is_next or not self.is_of_stream(placed) or self.recording.due_in(placed) > 0:
+                break
+            end += placed.length
+        return end
 
     def is_of_stream(self, placed: Placed) -> bool:
         """Whether a packet goes into the stream that was begun last."""
@@ -73,10 +91,9 @@ class Streaming:
         """Begins another stream behind the last one, from the next packet on."""
         self.end()
         recording = self.recording
-        self.channels, self.origins = recording.channels(), recording.origins()
-        self.stream = Stream(
-            recording.setup(self.channels, recording.place()), self.datagrams.add, self.datagrams.flush
-        )
+        self.at, self.channels, self.origins = recording.place(), recording.channels(), recording.origins()
+        setup = recording.setup(self.channels, self.at)
+        self.stream = Stream(setup, self.datagrams.add, self.datagrams.flush)
         recording.repeat_filters()
 
     def end(self) -> None:
@@ -87,6 +104,7 @@ class Streaming:
         try:
             late, others = stream.end()
         except Broken as why:
-            raise Broken(f"{self.recording.path}: {why}") from None
+            where = f" of its stream from byte {self.at} on" if self.at else ""
+            raise Broken(f"{self.recording.path}: {why}{where}") from None
         self.late += late
         self.others += others
