@@ -115,6 +115,22 @@ def test_more_than_pipes_hold_goes_out(work: Path, monkeypatch: pytest.MonkeyPat
     judge(f"{len(data):,} bytes", played.sent() == data)
 
 
+def test_what_is_left_out_cuts_no_packet(work: Path, monkeypatch: pytest.MonkeyPatch) -> None:
+    played = Played(work, monkeypatch, PLAYED.replace("cat\n", 'sleep 0.3\ntee "$here/given"\n'))
+    for number in range(20):
+        played.made.add_frames(1, [(number * 1_000 + it, 0, 16_000) for it in range(10)])
+    data = played.write()
+    streaming = played.begin()
+    while not streaming.written:
+        streaming.go_on()
+    streaming.finish_packet()
+    left = streaming.recording.leave_rest()
+    streaming.end()
+    sent = packets(packets_in(played.datagrams))
+    judge("a beginning", data.startswith(b"".join(sent)) and len(sent) + left == 20 and left > 0, (len(sent), left))
+    judge("of whole packets", (played.folder / "given").read_bytes() == b"".join(sent))
+
+
 def test_an_origin_that_comes_later_begins_another_stream(work: Path, monkeypatch: pytest.MonkeyPatch) -> None:
     """From the next packet on, behind the filters that are in force; the facts' other changes begin none."""
     played = Played(work, monkeypatch)

@@ -79,16 +79,14 @@ def test_the_datagrams_of_the_worked_row_are_those_of_the_page(work: Path) -> No
     path.write_bytes(SAMPLES[1].read_bytes())
     section = PAGE.read_text().partition("## The same packets by UDP")[2]
     lines = [it.removesuffix(" ..").replace(" ", "") for it in section.split("```")[1].split("\n") if it]
-    for most, lengths in [(1_472, [968]), (400, [400, 300, 292])]:
+    for most in (1_472, 400):
         station = Station()
         send(path, station.address, "--datagram", most, "--origin", "1764590400.250000123")
         sent = station.close()
-        judge(f"of at most {most}", [len(it) for it in sent] == lengths, [len(it) for it in sent])
-    judge(
-        "their bytes",
-        len(lines) == 3 and all(it.hex().startswith(line) for it, line in zip(sent, lines)),
-        [it.hex() for it in sent],
-    )
+        judge(f"of at most {most}", len(packets_in(sent)) == 964, [len(it) for it in sent])
+    judge("the setup record", [len(it) for it in sent[:2]] == [400, 300], [len(it) for it in sent])
+    is_right = len(lines) == 3 and all(it.hex().startswith(line) for it, line in zip(sent, lines))
+    judge("their bytes", is_right, [it.hex() for it in sent])
 
 
 def test_what_is_recorded_is_received_as_it_grows(work: Path) -> None:

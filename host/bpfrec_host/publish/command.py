@@ -155,6 +155,7 @@ class Publisher:
         while not self.is_left_out() and (recording.waiting or recording.read_on()):
             streaming.go_on()
             self.tell_counts()
+        streaming.finish_packet()
         left = recording.leave_rest()
         streaming.end()
         self.count(streaming, left)

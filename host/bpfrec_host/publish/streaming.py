@@ -12,7 +12,7 @@ from bpfrec_host.publish.recording import Placed, Recording
 from bpfrec_host.publish.stream import Broken, Stream
 
 # How much is read of the recording at once, of how many packets, and how often one looks for more, in seconds.
-PIECE, MOST_AT_ONCE, PAUSE = 1 << 18, 256, 0.015
+PIECE, MOST_AT_ONCE, PAUSE = 1 << 18, 256, 0.01
 
 
 class Streaming:
@@ -56,8 +56,12 @@ class Streaming:
         """Writes what can go into the stream at once, as far as that takes it."""
         if not self.written and not self.is_of_stream(self.recording.waiting[0]):
             self.begin()
+        self.write_to(self.end_of_part())
+
+    def write_to(self, end: int) -> None:
+        """Writes up to a place, as far as the stream takes it."""
         begin = self.recording.waiting[0].at + self.written
-        data = self.recording.read_at(begin, min(self.end_of_part() - begin, PIECE))
+        data = self.recording.read_at(begin, min(end - begin, PIECE))
         if not data:
             raise Broken(f"{self.recording.path}: read 1 Truncated {self.recording.place()}")
         assert self.stream
@@ -68,6 +72,14 @@ class Streaming:
         while waiting and self.written >= waiting[0].length:
             self.written -= waiting[0].length
             self.recording.pass_by(waiting.popleft())
+
+    def finish_packet(self) -> None:
+        """Writes the rest of a packet of which the stream has a part."""
+        while self.written and self.stream and not self.stream.is_over:
+            first = self.recording.waiting[0]
+            self.write_to(first.at + first.length)
+            self.stream.wait(PAUSE, self.is_full)
+            self.stream.read()
 
     def end_of_part(self) -> int:
         """The place up to which packets follow one another that are due and go into the same stream: what is written at
