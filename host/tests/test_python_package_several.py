@@ -116,7 +116,7 @@ def test_recordings_that_follow_one_another_have_the_same_channels(work: Path) -
     first, second = recorder(work, "1", {1: [10], 2: [20]}), recorder(work, "2", {1: [30], 2: [40]})
     opened = bpfrec.open(first, second)
     paths = (str(first), str(second))
-    wanted = tuple(bpfrec.Channel(it, f"eth{it}", "fc1", it, paths) for it in (1, 2))
+    wanted = tuple(bpfrec.Channel(it, f"eth{it}", "fc1", it, paths, f"eth{it}") for it in (1, 2))
     judge("two", opened.channels == wanted, opened.channels)
     judge("one after the other", counters(opened) == [(1, 10), (2, 20), (1, 30), (2, 40)])
     filters = [(it.channel, it.path) for it in opened.filters]
