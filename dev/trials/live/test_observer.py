@@ -58,7 +58,7 @@ def test_an_observer_is_told_each_event_once_and_in_order(work: Path, quiet: lis
     begun = of(told, "recording_begun")
     judge(
         "the recording's begin, once and first of it",
-        len(begun) == 1 and begun[0][:3] == [1, f"{work}/seen.ch11", [[1, "rx0", "all"], [2, "rx1", "none"]]],
+        len(begun) == 1 and begun[0][:3] == [1, f"{work}/seen.ch11", [[1, "rx0", "all", ""], [2, "rx1", "none", ""]]],
         begun,
     )
     judge("the filter that was changed", of(told, "filter_changed") == [[2, 1, "all"]])
