@@ -73,8 +73,8 @@ def parser() -> Parser:
     origin = "where there are no facts, the moment of counter 0 in UTC, in seconds since 1970"
     made.add_argument("--origin", metavar="SECONDS", type=origin_of, help=origin)
     add_setup_options(made)
-    # What live has it write counts to.
-    made.add_argument("--counts", metavar="FD", type=int, help=argparse.SUPPRESS)
+    counts = "writes `datagrams <n> lost <n> late <n>` to this descriptor, a pipe, each second"
+    made.add_argument("--counts", metavar="FD", type=int, help=counts)
     made.add_argument("recording", metavar="RECORDING")
     made.add_argument("address", metavar="ADDRESS:PORT", type=udp_address)
     return made
