@@ -14,6 +14,7 @@ use Rattle.ch11_file.specs.FilesRead.{IsValidPacket, TellsClock}
 use Rattle.rec_reader.specs.Packets.{PacketData}
 use Rattle.rec_pieces.specs.declared.entry.PieceKind.{PieceKind}
 use Rattle.rec_pieces.specs.Entries.{packet_names}
+use Rattle.rec_whole.proofs.PiecesOut.{all_append}
 use Rattle.rec_stream.specs.StreamPieces.{StreamPiece}
 use Rattle.rec_stream.specs.StreamBlocks.{StreamFacts, StreamState, StreamContentGoes, StreamGoesOut, StreamGoesNext}
 use Rattle.rec_stream.specs.Streams.{StreamStage, AreStream, NamedGoes, PacketsGo, PiecesGo}
@@ -22,10 +23,6 @@ use Rattle.rec_stream.specs.StreamsRead.{HasSetupText}
 use Rattle.rec_stream.proofs.OneStream.{next_point}
 
 module _ (facts : StreamFacts) (P : FileBlock → Type 0) (each : (old new : StreamState) (b : FileBlock) → StreamGoesNext facts old b new → P b) where
-  all_append : (xs ys : List FileBlock) → AllByRecursion P xs → AllByRecursion P ys → AllByRecursion P (xs ++ ys)
-  all_append [] ys a b = b
-  all_append (x ∷ xs) ys a b = (a.0, all_append xs ys a.1 b)
-
   all_out : (old new : StreamState) (blocks : List FileBlock) → StreamGoesOut facts old blocks new → AllByRecursion P blocks
   all_out old new [] go = tt
   all_out old new (b ∷ blocks) go = (each old go.0 b go.1, all_out go.0 new blocks go.2)
@@ -44,7 +41,7 @@ module _ (facts : StreamFacts) (P : FileBlock → Type 0) (each : (old new : Str
       → AllByRecursion P blocks
   all_packets old new [] blocks go = subst (AllByRecursion P) (sym go.0) tt
   all_packets old new (p ∷ packets) blocks (mid, ahead, behind, is, first, rest) =
-      subst (AllByRecursion P) (sym is) (all_append ahead behind (all_named (packet_names p) old mid p ahead first) (all_packets mid new packets behind rest))
+      subst (AllByRecursion P) (sym is) (all_append P ahead behind (all_named (packet_names p) old mid p ahead first) (all_packets mid new packets behind rest))
 
 -- ---- form
 
