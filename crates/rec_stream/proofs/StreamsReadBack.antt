@@ -30,7 +30,7 @@ use Rattle.rec_pieces.specs.declared.entry.PieceKind.TheVariants.{Frames, Record
 use Rattle.rec_pieces.specs.Entries.{named_by, packet_names, pieces_named, pieces_of, pieces_of_channel, pieces_of_packet}
 use Rattle.rec_whole.specs.WholeFrames.{file_frames, frame_held}
 use Rattle.rec_whole.proofs.PiecesOut.{ContentHas, HasHead, IsOut, all_append}
-use Rattle.rec_whole.proofs.ReadPieces.{IsReadPiece, parts_read, record_counter}
+use Rattle.rec_whole.proofs.ReadPieces.{IsReadPiece, all_back, all_front, parts_read, record_counter}
 use Rattle.rec_stream.specs.StreamPieces.{StreamPiece, head_counter, is_end, pieces_naming, pieces_on, stream_piece, stream_pieces}
 use Rattle.rec_stream.specs.StreamBlocks.{StreamFacts, StreamState, NoneIsDue, StreamContentGoes, StreamGoesOut}
 use Rattle.rec_stream.specs.Streams.{StreamStage, AreStream, NamedGoes, PacketsGo, PiecesGo, begun_by}
@@ -285,14 +285,6 @@ packet_read packet read =
 abbrev StageIsRead : StreamStage → Type 0
 StageIsRead (Waiting ends) = AllByRecursion IsReadOn ends
 StageIsRead (Begun state) = AllByRecursion IsReadOn state.left
-
-all_front : {X : Type 0} (P : X → Type 0) (xs ys : List X) → AllByRecursion P (xs ++ ys) → AllByRecursion P xs
-all_front P [] ys all = tt
-all_front P (x ∷ xs) ys all = (all.0, all_front P xs ys all.1)
-
-all_back : {X : Type 0} (P : X → Type 0) (xs ys : List X) → AllByRecursion P (xs ++ ys) → AllByRecursion P ys
-all_back P [] ys all = all
-all_back P (x ∷ xs) ys all = all_back P xs ys all.1
 
 module _ (facts : StreamFacts) where
   abbrev AreOut : List FileBlock → Type 0
