@@ -19,7 +19,7 @@ from typing import Any, cast
 
 ROOT = Path(__file__).resolve().parent.parent
 sys.path.insert(0, str(ROOT / "host"))
-from bpfrec_host.live.hashes import Ended, File, Hashes, Job
+from bpfrec_tools.live.kept.hashes import Ended, File, Hashes, Job
 
 MEBIBYTE = 1 << 20
 

@@ -34,8 +34,9 @@ from pathlib import Path
 ROOT = Path(__file__).resolve().parent.parent
 sys.dont_write_bytecode = True
 sys.path[:0] = [str(ROOT / "dev/trials/lib"), str(ROOT / "host")]
-from bpfrec_host.formats.ch11.follow import Follower, Front
-from bpfrec_host.formats.limits import ETHERNET_DATA
+from bpfrec.formats.follow import Follower, Front
+from bpfrec.formats.held import File
+from bpfrec.formats.limits import ETHERNET_DATA
 from frames import HEAD, numbered
 from ground import Station
 from namespace import make_many_pairs, make_pair, own_namespace, socket_into
@@ -81,8 +82,8 @@ class Written:
     """How many frames a recording has, at which moments."""
 
     def __init__(self, path: Path) -> None:
-        self.descriptor = os.open(path, os.O_RDONLY)
-        self.follower = Follower(self.descriptor, self.take)
+        self.file = File(str(path), open(path, "rb"))
+        self.follower = Follower(self.file.read_at, self.take)
         self.count = 0
         self.moments: list[float] = []
         self.counts: list[int] = []
@@ -94,7 +95,7 @@ class Written:
     def look(self) -> float:
         """Looks what has come by now: when it had."""
         now = time.monotonic()
-        list(self.follower.read_on(os.fstat(self.descriptor).st_size))
+        list(self.follower.read_on(self.file.size_now()))
         self.moments.append(now)
         self.counts.append(self.count)
         return now

@@ -2,7 +2,7 @@
 """Compares the numbers of host/, of the plugin for Wireshark and of docs/user/formats/ with those of the program.
 
 The stored run of crates/test_cases prints the constants that libraries offer, as `limit MAX_INSNS 4096`. Of these, and
-of the lines that declare the others, --write makes the first half of host/bpfrec_host/formats/limits.py. Of that file
+of the lines that declare the others, --write makes the first half of host/bpfrec/formats/limits.py. Of that file
 it makes the numbers at the head of the plugin, and each number of those pages that has a name behind it, as
 4,096<!--MAX_INSNS-->. The help and the schema of the facts must have them too. Without --write it prints what
 differs, with status 1.
@@ -20,7 +20,7 @@ ROOT = Path(__file__).resolve().parents[2]
 sys.path.insert(0, str(ROOT / "dev/package"))
 import help_texts
 
-STORED, LIMITS = ROOT / "crates/test_cases/stdout", ROOT / "host/bpfrec_host/formats/limits.py"
+STORED, LIMITS = ROOT / "crates/test_cases/stdout", ROOT / "host/bpfrec/formats/limits.py"
 PLUGIN, FORMATS = ROOT / "host/wireshark/parts/bytes.lua", ROOT / "docs/user/formats"
 # The constants that no library offers, and those of the capture: where each stands, and its name there.
 DECLARED = {
@@ -43,7 +43,7 @@ HELP = {
     "simulate": "marks: {MARK_CHECK_SEQUENCE} CRC error, {MARK_OTHER_FAULT} frame error",
     "capture": "(default {USUAL_BUFFER},",
 }
-# Numbers by their names, and what else host/bpfrec_host/formats/limits.py has.
+# Numbers by their names, and what else host/bpfrec/formats/limits.py has.
 Values = dict[str, Any]
 # A number that has a name: in code, on a line of its own, and in a document.
 ASSIGNED = re.compile(r'^(?:local )?(?P<name>[A-Z][A-Z_]+) = "?(?P<number>0x[0-9A-F]+|\d[\d_]*)"?$', re.MULTILINE)

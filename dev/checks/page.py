@@ -15,7 +15,7 @@ sys.dont_write_bytecode = True
 sys.path.insert(0, str(Path(__file__).resolve().parents[1] / "package"))
 import help_texts
 import make_texts
-from bpfrec_host import VERSION
+from bpfrec_tools import VERSION
 from manual_page import proved_verbs
 
 # The commands that no verb is: `bpfrec --version` is the one, and `bpfrec export` of the tools has the words of the other.

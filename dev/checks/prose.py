@@ -1,6 +1,6 @@
 #!/usr/bin/env python3
 """Checks the English of what users and engineers read: no sentence over 40 words, no page over 25 a sentence on
-average, none of the words that STYLE refuses.
+average, none of the words that STYLE refuses, and no more words in all pages than MOST_WORDS has.
 
 It reads README.md, CONTRIBUTING.md, CHANGELOG.md, the pages of docs/, examples/, bench/ and of each crate, what the
 schemas of docs/user/formats/ say of their keys, the page bpfrec(1), which has each line of the program's help, and the
@@ -15,6 +15,7 @@ import argparse
 import ast
 import json
 import re
+import subprocess
 import sys
 from collections.abc import Iterator
 from pathlib import Path
@@ -27,6 +28,10 @@ import manual_page
 
 STYLE = ROOT / "docs" / "dev" / "STYLE.md"
 MOST, MOST_ON_AVERAGE = 40, 25
+# How many words pages of the repository may have together, as wc counts them: all, the first, and those that a user in
+# flight reads first.
+FIRST_PAGES = ("README.md", "docs/user/USING.md", "docs/user/using/record.md", "docs/user/using/read.md")
+MOST_WORDS = {("*.md",): 60_000, ("README.md",): 1_500, FIRST_PAGES: 4_000}
 # Words that STYLE refuses, as patterns, each with what to write.
 Refused = list[tuple[re.Pattern[str], str]]
 # The rows of STYLE's table of words: what is refused, as a pattern, and what to write.
@@ -101,6 +106,15 @@ def refused_in(text: str, patterns: Refused) -> Iterator[str]:
     for pattern, better in patterns:
         for found in pattern.finditer(re.sub(r"\s+", " ", text)):
             yield f'"{found[0]}": write {better}'
+
+
+def too_many_words() -> Iterator[str]:
+    """Which pages have more words together than they may."""
+    for pages, most in MOST_WORDS.items():
+        listed = subprocess.run(["git", "ls-files", *pages], cwd=ROOT, check=True, text=True, stdout=subprocess.PIPE)
+        count = sum(len((ROOT / it).read_text().split()) for it in listed.stdout.splitlines() if (ROOT / it).exists())
+        if count > most:
+            yield f"{' '.join(pages)}: {count:,} words, and at most {most:,} are allowed"
 
 
 # ---- what is read
@@ -180,10 +194,11 @@ def main() -> int:
     argparse.ArgumentParser(description=__doc__, formatter_class=argparse.RawDescriptionHelpFormatter).parse_args()
     patterns = refused()
     faults = [f"{name}:{at}: {reason}" for name, text in texts() for at, reason in faults_in(text, patterns)]
+    faults += too_many_words()
     for file, at, text in printed():
         shown = " ".join(text.split())[:80]
         faults += [f"{file.relative_to(ROOT)}:{at}: {it}: {shown}" for it in refused_in(plain(text), patterns)]
-    print("\n".join(faults) or "no sentence is too long, and no word is one that docs/dev/STYLE.md refuses")
+    print("\n".join(faults) or "no sentence or page is too long, and no word is one that docs/dev/STYLE.md refuses")
     return 1 if faults else 0
 
 

@@ -41,7 +41,7 @@ CALL = re.compile(r"^ *pub (?:(?:const )?fn|struct|enum|trait|type) (\w+)")
 # What is there for tests, pages and measurements alone.
 FOR_TESTS = {"test_samples", "test_callers", "test_whole", "test_buffers", "test_theorem", "bench"}
 # Libraries that stand ahead of the command that will call them.
-AHEAD = {"ch11_channels", "ch11_moved"}
+AHEAD: set[str] = set()
 # Public calls that the program makes no use of, and what they are there for.
 OFFERED = {
     "run_world": "the core, driven by a list of events: the theorem is stated of it",

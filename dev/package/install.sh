@@ -42,7 +42,7 @@ files() {
     echo "755 host/bin/bpfrec bin/bpfrec"
     echo "755 bin/bpfrec libexec/bpfrec/bpfrec"
     echo "755 bin/capture libexec/bpfrec/capture"
-    echo "755 host/bpfrec_host libexec/bpfrec/tool"
+    echo "755 host/bpfrec_tools libexec/bpfrec/tool"
     for file in bin/man/*.1; do
         echo "644 $file share/man/man1/${file##*/}"
     done
@@ -50,8 +50,8 @@ files() {
     echo "644 dev/package/completions/_bpfrec $ZSH/_bpfrec"
     echo "644 dev/package/completions/bpfrec.fish share/fish/vendor_completions.d/bpfrec.fish"
     echo "644 bin/bpfrec.lua share/bpfrec/bpfrec.lua"
-    python_files | while read -r file; do
-        echo "644 host/$file $python_packages/$file"
+    find host/bpfrec -type f \( -name '*.py' -o -name py.typed \) | sort | while read -r file; do
+        echo "644 $file $python_packages/${file#host/}"
     done
     find docs/user -type f | sort | while read -r file; do
         at=${file#docs/user/}
@@ -61,11 +61,6 @@ files() {
         echo "644 $file share/doc/bpfrec/$file"
     done
     echo "644 examples/bpfrec.service lib/systemd/system/bpfrec.service"
-}
-
-# The files of the Python package, which need Python to be found.
-python_files() {
-    [[ ! -x /usr/bin/python3 ]] || /usr/bin/python3 -I dev/package/python_files.py
 }
 
 # The folder in which Wireshark looks for plugins of all users.
@@ -88,7 +83,7 @@ install_plugin() {
 
 # The modules of the Python package from before, and what Python compiled of them.
 remove_modules() {
-    rm -rf "$to/$python_packages/bpfrec" "$to/$python_packages/bpfrec_host"
+    rm -rf "$to/$python_packages/bpfrec"
 }
 
 # Whether a program was built from its proof, which the compiler notes in the section .comment.
@@ -99,7 +94,7 @@ is_proved() {
 # install_host MODE FILE: makes the file of the tools in Python
 install_host() {
     if [[ ! -x /usr/bin/python3 ]]; then
-        echo "/usr/bin/python3 is missing, so the tools and the package bpfrec aren't installed"
+        echo "/usr/bin/python3 is missing, so the tools aren't installed"
         return
     fi
     install -d "$(dirname "$2")"
@@ -124,7 +119,7 @@ install_all() {
     while read -r mode from at; do
         if [[ $from == bin/capture && ! -x $from ]]; then
             echo "bin/capture isn't built, so it isn't installed, and bpfrec live can't record interfaces"
-        elif [[ $from == host/bpfrec_host ]]; then
+        elif [[ $from == host/bpfrec_tools ]]; then
             install_host "$mode" "$to/$at"
         else
             install -D -m "$mode" "$from" "$to/$at"

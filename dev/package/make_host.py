@@ -1,5 +1,5 @@
 #!/usr/bin/env python3
-"""Makes one file of the Python tools, host/bpfrec_host with host/second: `FILE info` runs the tool info, and so on.
+"""Makes one file of the Python tools, which are the packages below host/: `FILE info` runs the tool info, and so on.
 
 FILE is an archive that Python runs. Beside each module it has what this Python compiles of it, which another version
 passes over. The same sources make the same bytes: the files stand by their names, and have one time.
@@ -16,7 +16,7 @@ import zipfile
 from pathlib import Path
 
 HOST = Path(__file__).resolve().parents[2] / "host"
-PACKAGES = ("bpfrec_host", "second")
+PACKAGES = ("bpfrec", "bpfrec_tools", "second")
 # No modules of the caller's folder, and none that the environment names.
 INTERPRETER = "/usr/bin/python3 -I"
 MAIN = """import sys
@@ -24,7 +24,7 @@ MAIN = """import sys
 if sys.version_info < (3, 9):
     sys.stderr.write("bpfrec: the tools need Python 3.9 or later, and this is %d.%d\\n" % sys.version_info[:2])
     sys.exit(2)
-from bpfrec_host.__main__ import main
+from bpfrec_tools.__main__ import main
 
 sys.exit(main())
 """

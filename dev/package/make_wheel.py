@@ -1,7 +1,7 @@
 #!/usr/bin/env python3
 """Makes bin/bpfrec-<version>-py3-none-any.whl, the Python package bpfrec for pip, and prints its path.
 
-It has what dev/package/python_files.py lists, and needs no other package. The same sources make the same bytes.
+It has what is in host/bpfrec/, and needs no other package. The same sources make the same bytes.
 
 Status: 0 made, 2 the arguments are wrong.
 """
@@ -10,19 +10,19 @@ import base64
 import hashlib
 import sys
 import zipfile
+from pathlib import Path
 
 sys.dont_write_bytecode = True
-from python_files import HOST, PACKAGE, paths
-
+HOST, PACKAGE = Path(__file__).resolve().parents[2] / "host", "bpfrec"
 sys.path.insert(0, str(HOST))
-from bpfrec_host import VERSION
+from bpfrec import __version__
 
 BIN = HOST.parent / "bin"
-NAME = f"{PACKAGE}-{VERSION}"
+NAME = f"{PACKAGE}-{__version__}"
 METADATA = f"""\
 Metadata-Version: 2.1
 Name: {PACKAGE}
-Version: {VERSION}
+Version: {__version__}
 Summary: Frames of bpfrec's recordings in Python
 Requires-Python: >=3.9
 """
@@ -39,7 +39,8 @@ def recorded(name: str, data: bytes) -> str:
 
 def contents() -> dict[str, bytes]:
     """The files of the wheel, by their paths in it."""
-    found = {str(it.relative_to(HOST)): it.read_bytes() for it in paths()}
+    paths = sorted([*(HOST / PACKAGE).rglob("*.py"), HOST / PACKAGE / "py.typed"])
+    found = {str(it.relative_to(HOST)): it.read_bytes() for it in paths}
     found |= {f"{NAME}.dist-info/{name}": text.encode() for name, text in (("METADATA", METADATA), ("WHEEL", WHEEL))}
     listed = f"{NAME}.dist-info/RECORD"
     lines = [*(recorded(name, data) for name, data in found.items()), f"{listed},,"]

@@ -5,7 +5,7 @@ import re
 import textwrap
 from collections.abc import Iterator
 
-from bpfrec_host import verbs
+from bpfrec_tools import verbs
 from help_texts import FORMATS, Command, Help, capture_text, parsers, uses_in
 
 # The day of the page's last change, which pages have.

@@ -47,6 +47,16 @@ def test_each_fault_is_found_with_its_line(text: str, line: int) -> None:
     judge("it finds the fault and its line", [at for at, _ in found] == [line], str(found))
 
 
+def test_pages_with_too_many_words_are_found(monkeypatch: pytest.MonkeyPatch) -> None:
+    """By the number that wc prints, and the bound."""
+    count = len((ROOT / "README.md").read_text().split())
+    monkeypatch.setattr(prose, "MOST_WORDS", {("README.md",): count})
+    judge("as many as are allowed", list(prose.too_many_words()) == [])
+    monkeypatch.setattr(prose, "MOST_WORDS", {("README.md",): count - 1})
+    wanted = [f"README.md: {count:,} words, and at most {count - 1:,} are allowed"]
+    judge("one more", list(prose.too_many_words()) == wanted, list(prose.too_many_words()))
+
+
 def test_the_help_of_each_tool_is_read() -> None:
     """Each tool's help is read, and that of each of its commands."""
     names = [name for name, _ in prose.texts()]
@@ -66,7 +76,7 @@ def test_printed() -> None:
     judge("strings are read, and what documents isn't", found == [(3, "a thing"), (3, "x wants")], found)
     read = {str(file.relative_to(ROOT)) for file, _, _ in prose.printed()}
     for name in (
-        "host/bpfrec_host/live/folder.py",
+        "host/bpfrec_tools/live/parts/folder.py",
         "capture/src/arguments.c",
         "dev/trials/lib/trial_fixtures.py",
         "Makefile",

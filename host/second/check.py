@@ -132,6 +132,9 @@ class Check:
         if not record.has_counter and packet.counter != greatest:
             yield "the counter of an end that was offered nothing isn't the greatest"
         turn = Turn(not record.has_counter, packet.counter if record.has_counter else 0, record.channel)
+        # The counts of a run's end are those of all its recordings, of which the last may have been offered nothing.
+        if record.is_end and packet.counter == greatest and not self.order.turns.is_next(turn):
+            turn = Turn(True, 0, record.channel)
         yield from self.order.take_turn(turn, packet.counter)
 
     def take_time(self, packet: Packet) -> Faults:

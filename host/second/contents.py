@@ -62,10 +62,11 @@ class Frame(NamedTuple):
 
 
 class Record(NamedTuple):
-    """A program or an end: its channel; and whether it has a counter, as all but the end of a channel that was offered
-    nothing."""
+    """A program or an end: its channel; whether it is an end; and whether it has a counter, as all but the end of a
+    channel that was offered nothing."""
 
     channel: int
+    is_end: bool
     has_counter: bool
 
 
@@ -171,4 +172,4 @@ def record_in(data: bytes) -> Record:
     if len(data) != (END_LEN if kind == END else PROGRAM_LEN + INSN_LEN * insns):
         raise Wrong(f"a record of {len(data)} bytes")
     offered = struct.unpack_from("<Q", data, 12)[0] if kind == END else 1
-    return Record(channel, offered > 0)
+    return Record(channel, kind == END, offered > 0)

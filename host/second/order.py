@@ -43,10 +43,14 @@ class Turns:
         self.numbers: list[int] = []
         self.turns: list[Turn] = []
 
+    def is_next(self, turn: Turn) -> bool:
+        """Whether the next packet goes out in its turn."""
+        at = bisect_right(self.numbers, self.last.get(turn.channel, -1))
+        return at == len(self.turns) or self.turns[at] < turn
+
     def take(self, turn: Turn) -> bool:
         """Takes the next packet: whether it went out in its turn."""
-        at = bisect_right(self.numbers, self.last.get(turn.channel, -1))
-        is_right = at == len(self.turns) or self.turns[at] < turn
+        is_right = self.is_next(turn)
         while self.turns and self.turns[-1] <= turn:
             self.numbers.pop()
             self.turns.pop()

@@ -3,7 +3,7 @@
 from __future__ import annotations
 
 import pytest
-from bpfrec_host.formats.answers import Answer, Report, Verdict, file_fault, is_no_listing, is_output_fault
+from bpfrec.formats.answers import Answer, Report, Verdict, file_fault, is_no_listing, is_output_fault
 
 REPORTS = {
     "wrote 3 832": Report(3, 832),

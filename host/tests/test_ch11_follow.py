@@ -1,7 +1,7 @@
 """Tries the follower of recordings that grow: byte by byte, behind damage of each kind, at the end of a recording, and
 how much a call takes.
 
-What it should find is taken from the reader of whole recordings (host/bpfrec_host/formats/ch11/reader.py).
+What it should find is taken from the reader of whole recordings (host/bpfrec/formats/reader.py).
 """
 
 from __future__ import annotations
@@ -9,15 +9,18 @@ from __future__ import annotations
 import os
 import random
 import tempfile
+from functools import partial
 from pathlib import Path
 from typing import BinaryIO, cast
 
 import pytest
-from bpfrec_host.formats.ch11.body import BadBody
-from bpfrec_host.formats.ch11.follow import MOST_FAULTS, MOST_SEARCHED, Follower, Front
-from bpfrec_host.formats.ch11.packet import Fault
+from bpfrec.formats.body import BadBody
+from bpfrec.formats.follow import MOST_FAULTS, MOST_SEARCHED, Follower, Front
+from bpfrec.formats.packet import Damage, Fault, Packet
+from bpfrec.formats.reader import reader_of
+from bpfrec.formats.records import End, Program
 from frames import COMPUTER, FRAMES, HEADER_LENGTH, end_packet, header_of, packet_of, program_packet
-from reading import SAMPLES, ch11, packets_of
+from reading import SAMPLES, packets_of
 from recorder import RECORDINGS
 from scripted import frames
 from support import judge, judge_quietly
@@ -30,6 +33,10 @@ by_name = pytest.mark.parametrize("sample", WHOLE, ids=lambda sample: sample.nam
 TOO_MANY = b"\xff\xff\0\0" + bytes(40)
 
 
+def read_at(descriptor: int, at: int, length: int) -> bytes:
+    return os.pread(descriptor, length, at)
+
+
 class Followed:
     """A file that grows, and the packets that were taken of it. One that says that it has 65,535 frames is refused."""
 
@@ -37,7 +44,7 @@ class Followed:
         self.file = cast(BinaryIO, tempfile.TemporaryFile(buffering=0))
         self.file.write(data)
         self.taken: list[Front] = []
-        self.follower = Follower(self.file.fileno(), self.take)
+        self.follower = Follower(partial(read_at, self.file.fileno()), self.take)
 
     def take(self, front: Front) -> None:
         if front.header.kind == FRAMES and front.data()[:2] == TOO_MANY[:2]:
@@ -98,7 +105,7 @@ def test_a_file_of_two_recorders_has_the_packets_of_both() -> None:
     judge("no fault", followed.read_on() == [])
     judge("all packets", followed.places() == [it.at for it in packets_of(both)] and len(followed.taken) > 3)
     records = [followed.follower.record(it) for it in followed.taken]
-    wanted = [it.what if isinstance(it.what, (ch11.Program, ch11.End)) else None for it in packets_of(both)]
+    wanted = [it.what if isinstance(it.what, (Program, End)) else None for it in packets_of(both)]
     judge("and records are the reader's", records == wanted and None in wanted, records)
 
 
@@ -113,7 +120,7 @@ def test_a_record_is_read_whole_and_one_that_is_longer_than_any_is_not_read(monk
     monkeypatch.setattr(os, "pread", counted)
     followed.read_on()
     found = followed.follower.record(followed.taken[0])
-    judge("the longest program", isinstance(found, ch11.Program) and len(found.insns) == 8 * 4_096, found)
+    judge("the longest program", isinstance(found, Program) and len(found.insns) == 8 * 4_096, found)
     judge("what is longer is another's", followed.follower.record(followed.taken[1]) is None)
     judge("and of neither more than that is read", sum(counts) < 33_000, counts)
 
@@ -144,7 +151,7 @@ def test_damage_of_each_kind_is_a_fault_and_what_follows_is_taken(name: str, has
     one = frames(1, 4)
     followed = Followed(one * 3 + bad + one * 4)
     if has_ended:
-        followed.follower.end()
+        followed.follower.end(followed.size())
     faults = followed.read_all()
     judge("its place is told, once", [str(it) for it in faults] == [f"read {fault} {3 * len(one)}"], faults)
     judge("what stands behind is taken", followed.channels() == [1] * 7, followed.channels())
@@ -176,7 +183,7 @@ def test_a_packet_that_is_longer_than_any_of_a_recorder_is_not_waited_for() -> N
     judge("it is a fault", [str(it) for it in followed.read_all()] == ["read 4 Length 0"])
     judge("and what follows is taken", followed.channels() == [1, 1, 1])
     followed = Followed(long + frames(1, 1) * 3)
-    followed.follower.end()
+    followed.follower.end(followed.size())
     judge("once it has ended it is taken", followed.read_all() == [] and followed.channels() == [5, 1, 1, 1])
 
 
@@ -191,13 +198,13 @@ def test_of_an_ended_recording_is_left_out_what_the_reader_leaves_out() -> None:
             file.write(data)
             file.flush()
             taken: list[int] = []
-            follower = Follower(file.fileno(), lambda front: take_whole(front, data, taken))
-            follower.end()
+            follower = Follower(partial(read_at, file.fileno()), lambda front: take_whole(front, data, taken))
+            follower.end(len(data))
             faults = [(it, follower.at - it.at) for it in follower.read_on(len(data), 1_000)]
             file.seek(0)
-            pieces = list(ch11.Reader(cast(BinaryIO, file)).pieces())
-        judge_quietly(f"byte {at}: faults", faults == [tuple(it) for it in pieces if isinstance(it, ch11.Damage)])
-        judge_quietly(f"byte {at}: packets", taken == [it.at for it in pieces if isinstance(it, ch11.Packet)], taken)
+            pieces = list(reader_of(cast(BinaryIO, file)).pieces())
+        judge_quietly(f"byte {at}: faults", faults == [tuple(it) for it in pieces if isinstance(it, Damage)])
+        judge_quietly(f"byte {at}: packets", taken == [it.at for it in pieces if isinstance(it, Packet)], taken)
     judge("as the reader", True)
 
 
@@ -217,7 +224,7 @@ def test_a_packet_that_is_cut_is_waited_for_until_the_recording_has_ended() -> N
     for length in range(len(one) * 2 + 1):
         followed = Followed((one * 2)[:length])
         judge_quietly(f"{length}: no fault while it grows", followed.read_all() == [])
-        followed.follower.end()
+        followed.follower.end(followed.size())
         whole = length // len(one) * len(one)
         wanted = [Fault(1, "Truncated", whole)] if length > whole else []
         judge_quietly(f"{length}: at the end", followed.read_all() == wanted and followed.follower.at == length)
@@ -227,13 +234,13 @@ def test_a_packet_that_is_cut_is_waited_for_until_the_recording_has_ended() -> N
 def test_what_a_search_had_left_is_judged_at_the_end() -> None:
     followed = Followed(frames(1, 1) + b"damage!!" * 9 + frames(1, 2)[:20])
     judge("the place", [it.name for it in followed.read_all()] == ["Sync"])
-    followed.follower.end()
+    followed.follower.end(followed.size())
     judge("the rest is damaged too", len(followed.read_all()) == 1 and followed.follower.at == followed.size())
 
 
 def test_a_file_that_is_cut_after_its_end_has_no_more_packets() -> None:
     followed = Followed(frames(1, 1) * 4)
-    followed.follower.end()
+    followed.follower.end(followed.size())
     followed.file.truncate(len(frames(1, 1)) * 2)
     faults = list(followed.follower.read_on(len(frames(1, 1)) * 4, 100))
     judge("those that are left", faults == [] and followed.channels() == [1, 1], faults)
@@ -257,7 +264,7 @@ def test_a_call_meets_few_damaged_places(has_ended: bool) -> None:
     bad = packet_of(1, TOO_MANY, 0, FRAMES, 0, False)
     followed = Followed((bad + frames(1, 1) * 2) * 20)
     if has_ended:
-        followed.follower.end()
+        followed.follower.end(followed.size())
     judge("a few", len(followed.read_on()) == MOST_FAULTS)
     judge("and all in the end", len(followed.read_all()) == 20 - MOST_FAULTS and len(followed.taken) == 40)
 

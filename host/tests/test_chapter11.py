@@ -12,9 +12,9 @@ from typing import Any
 
 import pytest
 import tomllib
-from bpfrec_host.formats import facts
-from bpfrec_host.info.as_json import object_of
-from bpfrec_host.info.contents import read
+from bpfrec.formats import facts
+from bpfrec_tools.info.as_json import object_of
+from bpfrec_tools.info.contents import read
 from expected_facts import UNKNOWN_SCALE
 from frames import FRAMES, body_of, packet_of
 from reading import SAMPLES
@@ -23,7 +23,6 @@ from support import EXPORT, judge, judge_quietly, nanoseconds, outcome
 from whole_file import Origin, Setup, whole_file
 from whole_file_parts import SECOND, faults_of, sample_recording
 
-WANTED: dict[str, str] = {}
 # Plays the program: what it is given, and how it ends.
 PLAYED = """#!/bin/sh
 printf '%s\\n' "$@" > "$(dirname "$0")/given"
@@ -242,10 +241,9 @@ def test_facts_that_say_no_times_are_refused(recording: Path) -> None:
 def test_recordings_that_are_no_files_are_refused(recording: Path) -> None:
     refused(recording, 3, "file none: No such file or directory\n", *ORIGIN, "none", "out")
     refused(recording, 3, "file .: Is a directory\n", *ORIGIN, ".", "out")
+    # It waits for no writer.
     os.mkfifo(recording.with_name("pipe"))
-    writer = os.open(recording.with_name("pipe"), os.O_RDWR)
     refused(recording, 3, "file pipe: it is no regular file, which could be read twice\n", *ORIGIN, "pipe", "out")
-    os.close(writer)
     judge("each is refused", True)
 
 

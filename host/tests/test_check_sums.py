@@ -15,7 +15,6 @@ from support import judge, judge_quietly, sums
 from whole_file import TIME
 from whole_file_parts import bytes_of, parts_of, place_of, sample, without
 
-WANTED: dict[str, str] = {}
 # How many bytes check reads at once, and the room in which it is tried.
 PIECE, ROOM = 1 << 16, 96 << 20
 

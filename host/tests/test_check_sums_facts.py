@@ -10,12 +10,12 @@ from pathlib import Path
 from typing import Any, Optional, cast
 
 import pytest
-from bpfrec_host.check import claims
-from bpfrec_host.check.claims import Before, Claims, NoClaims, claims_in
-from bpfrec_host.check.judge import PIECE, Judge, content_of
-from bpfrec_host.check.order import Place, in_order, place_of
-from bpfrec_host.check.verifier import Verifier, verifier_of
-from bpfrec_host.formats.signatures import Unsigned
+from bpfrec_tools.check import claims
+from bpfrec_tools.check.claims import Before, Claims, NoClaims, claims_in
+from bpfrec_tools.check.judge import PIECE, Judge, content_of
+from bpfrec_tools.check.order import Place, in_order, place_of
+from bpfrec_tools.check.verifier import Verifier, verifier_of
+from bpfrec_tools.cli.signatures import Unsigned
 from support import judge, judge_quietly, sums
 
 DIGEST = "0123456789abcdef" * 4

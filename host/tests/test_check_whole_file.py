@@ -12,10 +12,10 @@ import pytest
 from drawn_recording import DrawnRecording
 from reading import SAMPLES
 from support import CHECK_SUMS, judge, judge_quietly
-from whole_file import TIME, Origin, Refused, Rule, Setup, rules_of, whole_file
+from whole_file import TIME, Origin, Refused, Setup, whole_file
+from whole_file_clock import Rule, rules_of
 from whole_file_parts import ORIGIN, SECOND, bytes_of, parts_of, recorded, sample, without
 
-WANTED: dict[str, str] = {}
 DAY = 86_400
 # The sum of the file of the recording of 248 bytes with this origin.
 ONE_SUM = "bc7788fb6bd5a9b95dc6af282ea8a3d1a4b274476766c991a927b7373ea32e74"

@@ -3,12 +3,15 @@
 import argparse
 import ctypes
 import time
-from typing import Any
+from typing import Any, cast
 
 import pytest
-from bpfrec_host.formats.clock_state import ClockState, state_in
-from bpfrec_host.live import arguments, clock_watch, synchronisation, system
-from bpfrec_host.live.loop import Loop, Signals
+from bpfrec.formats.clock_state import ClockState, state_in
+from bpfrec_tools.live import arguments
+from bpfrec_tools.live.kept import clock_watch, synchronisation
+from bpfrec_tools.live.parts import system
+from bpfrec_tools.live.parts.loop import Loop, Signals
+from bpfrec_tools.live.parts.recorder import Recorder
 from support import judge, judge_quietly
 
 RIGHT: dict[str, Any] = {"is_synchronised": True, "maximum_error": "0.000125"}
@@ -158,7 +161,7 @@ def test_a_watch_says_the_clock_once_and_at_each_change(played: dict, signals: S
     watch = clock_watch.ClockWatch(loop, 0.01, lines.append, lambda state, most: seen.append(state))
     watch.tick(time.monotonic())
     judge("it says nothing before something is recorded", lines == [] and watch.deadline() is None)
-    watch.begin()
+    watch.begun(cast(Recorder, None))
     now = watch.deadline() or 0
     for second in range(5):
         looked(loop, watch, now + second)

@@ -8,12 +8,13 @@ import os
 from pathlib import Path
 
 import pytest
-from bpfrec_host.follow.runs import first_of, following, is_written, known_of, names_of, number_of, numbered
-from bpfrec_host.live.names import Names
-from bpfrec_host.streams import Refused
+from bpfrec.formats.names import Names, names_of
+from bpfrec_tools.cli.streams import Refused
+from bpfrec_tools.follow.growing import facts_of, first_of, following, is_written
 from support import judge
 
-WANTED: dict[str, str] = {}
+# 2026-01-02, in nanoseconds since 1970.
+SECOND_DAY = 1_767_312_000 * 10**9
 
 
 def write(path: Path, begun: str, state: str = "recording", moment: float = 0) -> str:
@@ -39,7 +40,7 @@ def write(path: Path, begun: str, state: str = "recording", moment: float = 0) -
     ],
 )
 def test_numbers_stand_in_names(name: str, number: int) -> None:
-    judge(name, number_of(name, Names("flight.ch11")) == number)
+    judge(name, Names("flight.ch11").number_of(name) == number)
 
 
 def test_a_numbered_recording_is_one_of_its_run() -> None:
@@ -58,7 +59,7 @@ def test_a_run_begins_with_its_newest_recording(work: Path) -> None:
         write(work / f"f_0000{number}.ch11", "x", moment=moment)
     judge("the newest", first_of(str(work / "f.ch11")) == str(work / "f_00002.ch11"))
     judge("a recording by its own name", first_of(str(work / "f_00003.ch11")) == str(work / "f_00003.ch11"))
-    judge("all in order", [it for it, _ in numbered(Names(str(work / "f.ch11")))] == [1, 2, 3])
+    judge("all in order", [it for it, _ in Names(str(work / "f.ch11")).there()] == [1, 2, 3])
     with pytest.raises(Refused, match="none that is numbered, as .*g_00001.ch11"):
         first_of(str(work / "g.ch11"))
 
@@ -67,21 +68,23 @@ def test_the_next_recording_is_the_next_of_the_same_run(work: Path) -> None:
     """One that an earlier run left is skipped, and one whose facts aren't there yet isn't the next yet."""
     first = write(work / "f_00001.ch11", "2026-01-02T00:00:00Z")
     write(work / "f_00002.ch11", "2026-01-01T00:00:00Z")
-    judge("an earlier run's", following(first, "2026-01-02T00:00:00Z") is None)
+    judge("an earlier run's", following(first, SECOND_DAY) is None)
     (work / "f_00003.ch11").write_bytes(b"")
-    judge("without facts yet", following(first, "2026-01-02T00:00:00Z") is None)
+    judge("without facts yet", following(first, SECOND_DAY) is None)
     third = write(work / "f_00003.ch11", "2026-01-02T00:00:00Z")
-    judge("its own", following(first, "2026-01-02T00:00:00Z") == third)
-    judge("a recording alone has none", following(write(work / "g.ch11", "x"), "x") is None)
+    judge("its own", following(first, SECOND_DAY) == third)
+    judge("a recording alone has none", following(write(work / "g.ch11", "x"), SECOND_DAY) is None)
 
 
 def test_facts_say_when_it_began_and_whether_it_has_ended(work: Path) -> None:
-    known = known_of(write(work / "f.ch11", "then", "ended"))
-    judge("both", known is not None and (known.begun, known.has_ended) == ("then", True))
-    for text in ("", "{}", '{"facts": 1}', "[]"):
+    known = facts_of(write(work / "f.ch11", "2026-01-02T00:00:00Z", "ended"))
+    judge("both", known is not None and (known.begun, known.has_ended) == (SECOND_DAY, True))
+    told = json.loads((work / "f.ch11.json").read_text())
+    unsaid = [json.dumps({name: it for name, it in told.items() if name != left}) for left in ("begun", "state")]
+    for text in ("", "{}", '{"facts": 1}', "[]", *unsaid):
         (work / "f.ch11.json").write_text(text)
-        judge(f"no facts: {text}", known_of(str(work / "f.ch11")) is None)
-    judge("none at all", known_of(str(work / "g.ch11")) is None)
+        judge(f"no facts: {text}", facts_of(str(work / "f.ch11")) is None)
+    judge("none at all", facts_of(str(work / "g.ch11")) is None)
 
 
 def test_a_lock_says_that_it_is_written(work: Path) -> None:

@@ -8,20 +8,20 @@ from pathlib import Path
 from typing import Any
 
 import pytest
-from bpfrec_host.formats.whole_file import time_text
-from bpfrec_host.info.as_json import object_of
-from bpfrec_host.info.contents import read
-from bpfrec_host.info.facts_file import facts_beside
-from bpfrec_host.info.page import page_parts
-from bpfrec_host.info.text import text_parts
-from bpfrec_host.program import Audit
+from bpfrec.formats.whole_file import time_text
+from bpfrec_tools.cli.program import Audit
+from bpfrec_tools.info.as_json import object_of
+from bpfrec_tools.info.contents import read
+from bpfrec_tools.info.facts_file import facts_beside
+from bpfrec_tools.info.page import page_parts
+from bpfrec_tools.info.text import text_parts
 from expected_facts import facts_of_run
 from reading import SAMPLES
 from support import judge, judge_quietly
-from whole_file import TIME, Origin, Setup, rules_of, whole_file
+from whole_file import TIME, Origin, Setup, whole_file
+from whole_file_clock import rules_of
 from whole_file_parts import ORIGIN, SECOND, parts_of, place_of, recorded, sample
 
-WANTED: dict[str, str] = {}
 SETUP = 0x01
 AUDIT = Audit("yes other 10", None)
 

@@ -9,20 +9,22 @@ from collections.abc import Callable
 from pathlib import Path
 
 import pytest
-from bpfrec_host.live import alarm_command, arguments, journal, standard_streams
-from bpfrec_host.live.alarm_command import AlarmCommand
-from bpfrec_host.live.console import Console
-from bpfrec_host.live.journal import Priority, priority_of
-from bpfrec_host.live.loop import Loop, Signals
-from bpfrec_host.live.status.alarm_changes import AlarmChange, AlarmChanges
-from bpfrec_host.live.status.alarms import Alarm
-from bpfrec_host.live.status.terminal import Terminal
+from bpfrec_tools.live import arguments
+from bpfrec_tools.live.parts.loop import Loop, Signals
+from bpfrec_tools.live.reports import alarm_command, journal, standard_streams
+from bpfrec_tools.live.reports.alarm_command import AlarmCommand
+from bpfrec_tools.live.reports.console import Console
+from bpfrec_tools.live.reports.journal import Priority, priority_of
+from bpfrec_tools.live.status.alarms import Alarm, AlarmChange, AlarmChanges, Level, Name
+from bpfrec_tools.live.status.terminal import Terminal
 from scripted import Flight, Wire
 from support import judge, judge_quietly, wait_for
 
-SILENT = Alarm("silent", "alarm", 3, "silent", "channel 3 (eth2): no frame came for 11 s")
-DISK = Alarm("disk", "alarm", None, "disk full", "the disk is full: 7 B are free")
-WAITS = Alarm("waits", "warning", 3, "pipe waits", "channel 3 (eth2): its pipe was full for 100 ms of the last 10 s")
+SILENT = Alarm(Name.SILENT, Level.ALARM, 3, "silent", "channel 3 (eth2): no frame came for 11 s")
+DISK = Alarm(Name.DISK, Level.ALARM, None, "disk full", "the disk is full: 7 B are free")
+WAITS = Alarm(
+    Name.WAITS, Level.WARNING, 3, "pipe waits", "channel 3 (eth2): its pipe was full for 100 ms of the last 10 s"
+)
 
 
 # ---- what has begun and ended
@@ -44,7 +46,7 @@ def test_an_alarm_begins_once_and_ends_once_whatever_it_says_meanwhile() -> None
     judge("one ends with its last text, another begins", told(changes, WAITS, DISK) == lines)
     other = SILENT._replace(channel=4)
     judge("of two channels there are two", len(told(changes, WAITS, DISK, SILENT, other)) == 2)
-    worse = WAITS._replace(level="alarm")
+    worse = WAITS._replace(level=Level.ALARM)
     lines = told(changes, worse, DISK, SILENT, other)
     judge(
         "a warning that becomes an alarm is one",

@@ -8,16 +8,17 @@ from pathlib import Path
 from typing import Optional, cast
 
 import pytest
-from bpfrec_host.formats import facts
-from bpfrec_host.live import arguments, folder
-from bpfrec_host.live.capture import Capture
-from bpfrec_host.live.child_lines import ChildLines
-from bpfrec_host.live.events import Counted, Event, Events, Loss, LostInAll, Origin, event_in
-from bpfrec_host.live.facts import utc_of_origin
-from bpfrec_host.live.interruptions import MOST_KEPT, Interruptions, Link
-from bpfrec_host.live.loop import Loop
-from bpfrec_host.live.model import KILLED
-from bpfrec_host.live.ports import Counts
+from bpfrec.formats import facts
+from bpfrec_tools.live import arguments
+from bpfrec_tools.live.kept.facts import utc_of_origin
+from bpfrec_tools.live.model import KILLED
+from bpfrec_tools.live.parts import folder
+from bpfrec_tools.live.parts.capture import Capture
+from bpfrec_tools.live.parts.child_lines import ChildLines
+from bpfrec_tools.live.parts.events import Counted, Event, Events, Loss, LostInAll, Origin, event_in
+from bpfrec_tools.live.parts.interruptions import MOST_KEPT, Interruptions, Link
+from bpfrec_tools.live.parts.loop import Loop
+from bpfrec_tools.live.run.ports import Counts
 
 ORIGIN = '{"origin": "1764590400.250000000", "counter": 0, "scale": "UTC"}'
 SET = '{"origin": "1764586800.250000123", "counter": 7, "set_by": "-3600.000000000", "scale": "UTC"}'

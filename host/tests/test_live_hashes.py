@@ -13,10 +13,10 @@ from types import SimpleNamespace
 from typing import Optional, cast
 
 import pytest
-from bpfrec_host.formats.signatures import Unsigned
-from bpfrec_host.live import hashes
-from bpfrec_host.live.hashes import CHANGED, GIVEN_UP, GONE, NO_FACTS, NO_HASH, PIECE, Ended, Unhashed
-from bpfrec_host.live.signer import Signer
+from bpfrec_tools.cli.signatures import Unsigned
+from bpfrec_tools.live.kept import hashes
+from bpfrec_tools.live.kept.hashes import CHANGED, GIVEN_UP, GONE, NO_FACTS, NO_HASH, PIECE, Ended, Unhashed
+from bpfrec_tools.live.kept.signer import Signer
 from played_hashes import FACTS, Played, facts_of, job_of, made
 from support import judge, judge_quietly, wait_for
 

@@ -13,10 +13,10 @@ from types import SimpleNamespace
 from typing import cast
 
 import pytest
-from bpfrec_host.formats.signatures import Unsigned
-from bpfrec_host.live.end_progress import FIRST, PAUSE, EndProgress
-from bpfrec_host.live.hashes import NICE, PIECE, RESTING, SIGN_PAUSE
-from bpfrec_host.live.signer import Overdue, Signer
+from bpfrec_tools.cli.signatures import Unsigned
+from bpfrec_tools.live.kept.ended import FIRST, PAUSE, EndProgress
+from bpfrec_tools.live.kept.hashes import NICE, PIECE, RESTING, SIGN_PAUSE
+from bpfrec_tools.live.kept.signer import Overdue, Signer
 from played_hashes import FACTS, Played, facts_of, made
 from support import judge, wait_for
 

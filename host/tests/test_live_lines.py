@@ -10,11 +10,11 @@ from types import SimpleNamespace
 from typing import Any, Optional, cast
 
 import pytest
-from bpfrec_host.live.control.changes import Changes, Pipe
-from bpfrec_host.live.control.lines import MOST_HELD, MOST_MADE, ControlLines, ControlPorts
-from bpfrec_host.live.control.made_filters import MadeFilter
-from bpfrec_host.live.operands import Route
-from bpfrec_host.live.status import Terminal
+from bpfrec_tools.live.control.changes import Changes, Pipe
+from bpfrec_tools.live.control.lines import MOST_HELD, MOST_MADE, ControlLines, ControlPorts
+from bpfrec_tools.live.control.made_filters import MadeFilter
+from bpfrec_tools.live.operands import Route
+from bpfrec_tools.live.status import Terminal
 from support import judge, present
 
 
@@ -114,7 +114,7 @@ REASONS = {
     "set": "it needs a channel and a filter, as set 7 udp port 5004",
     "set 9 arp": "no channel 9: 1, 2",
     "set eth9 arp": "no channel eth9: 1, 2",
-    'set "bus A" arp': 'no channel "bus: 1, 2',
+    'set "bus A" arp': "no channel bus A: 1, 2",
 }
 
 

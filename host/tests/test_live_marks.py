@@ -8,15 +8,13 @@ from types import SimpleNamespace
 from typing import Any, cast
 
 import pytest
-from bpfrec_host.live.control.words import HELP, Word, mark_in
-from bpfrec_host.live.events import Events, Origin
-from bpfrec_host.live.expressions import ALL, MOST_NAME, name_of
-from bpfrec_host.live.marks import Marks
-from bpfrec_host.live.noted import Noted, marks_of, note
-from bpfrec_host.live.recorder import Recorder
+from bpfrec_tools.live.control.words import HELP, Word, mark_in
+from bpfrec_tools.live.kept.marks import Marks
+from bpfrec_tools.live.kept.noted import Noted, marks_of, note
+from bpfrec_tools.live.parts.events import Events, Origin
+from bpfrec_tools.live.parts.expressions import ALL, MOST_NAME, name_of
+from bpfrec_tools.live.parts.recorder import Recorder
 from support import judge
-
-WANTED: dict[str, str] = {}
 
 
 @pytest.mark.parametrize(
@@ -109,7 +107,7 @@ def test_marks_of_a_recording_that_was_discarded_are_the_next_ones(work: Path) -
     world.marks.ended(one)
     world.marks.take(b"c")
     one.is_created = False
-    world.marks.concluded(one)
+    world.marks.concluded(one, 0)
     world.marks.begun(two)
     judge("in their order", world.texts(two) == ["a", "b", "c"], world.texts(two))
 

@@ -11,17 +11,18 @@ from types import SimpleNamespace
 from typing import Any, cast
 
 import pytest
-from bpfrec_host.live import outputs
-from bpfrec_host.live.facts import KILLED_STATUS, About, Writer
-from bpfrec_host.live.guard import Guard, write_facts
-from bpfrec_host.live.loop import Loop
-from bpfrec_host.live.model import Recording
-from bpfrec_host.live.names import Files, Names
-from bpfrec_host.live.recorder import Recorder
-from bpfrec_host.live.recordings import ROOM, Recordings
-from bpfrec_host.live.retention import Kept, approved
-from bpfrec_host.live.run import Run
-from bpfrec_host.live.whole_files import Job, WholeFiles
+from bpfrec.formats.names import Names
+from bpfrec_tools.live.kept.facts import KILLED_STATUS, About, Writer
+from bpfrec_tools.live.kept.names import Files
+from bpfrec_tools.live.kept.retention import Kept, approved
+from bpfrec_tools.live.kept.whole_files import Job, WholeFiles
+from bpfrec_tools.live.model import Recording
+from bpfrec_tools.live.parts import outputs
+from bpfrec_tools.live.parts.guard import Guard, write_facts
+from bpfrec_tools.live.parts.loop import Loop
+from bpfrec_tools.live.parts.recorder import Recorder
+from bpfrec_tools.live.parts.recordings import ROOM, Recordings
+from bpfrec_tools.live.run.run import Run
 from support import judge
 
 YES, NO = "channel 1 programs 1 frames 1 offered 1\nyes other 0\n", "no 5 NoEnd 1\n"
@@ -164,9 +165,8 @@ def test_a_recording_that_went_before_is_no_sync_of_the_one_that_goes_on() -> No
     """Its keeper forces it to its disk a last time while the next one goes on."""
     synced: list[float] = []
     current, before = Recording(2, "b"), Recording(1, "a")
-    played: Any = SimpleNamespace(
-        machine=SimpleNamespace(current=current), observers=SimpleNamespace(synced=synced.append)
-    )
+    part = SimpleNamespace(forced=lambda _, moment: synced.append(moment))
+    played: Any = SimpleNamespace(machine=SimpleNamespace(current=current), parts=[part])
     for recording, moment in ((before, 1.0), (current, 2.0), (before, 3.0)):
         Run.synced(played, cast(Recorder, SimpleNamespace(recording=recording)), moment)
     judge("that one alone is told", synced == [2.0], synced)

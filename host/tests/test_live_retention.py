@@ -7,9 +7,9 @@ from collections.abc import Callable, Iterator
 from pathlib import Path
 
 import pytest
-from bpfrec_host.live import retention
-from bpfrec_host.live.names import remove
-from bpfrec_host.live.retention import PAUSE, Kept, Retention
+from bpfrec_tools.live.kept import retention
+from bpfrec_tools.live.kept.names import remove
+from bpfrec_tools.live.kept.retention import PAUSE, Kept, Retention
 from support import SECONDS, judge
 
 FREE = 1_000

@@ -11,12 +11,13 @@ import time
 from pathlib import Path
 
 import pytest
-from bpfrec_host.formats.signatures import Unsigned, reason_in
-from bpfrec_host.live import ahead, signer
-from bpfrec_host.live.ahead import refuse_signing
-from bpfrec_host.live.arguments import read
-from bpfrec_host.live.names import Refusal
-from bpfrec_host.live.signer import Signer
+from bpfrec_tools.cli.signatures import Unsigned, reason_in
+from bpfrec_tools.live import ahead
+from bpfrec_tools.live.ahead import refuse_signing
+from bpfrec_tools.live.arguments import read
+from bpfrec_tools.live.kept import signer
+from bpfrec_tools.live.kept.names import Refusal
+from bpfrec_tools.live.kept.signer import Signer
 from support import ROOT, judge, wait_for
 
 LOCKED = b'Enter passphrase: Load key "k": incorrect passphrase supplied to decrypt private key\r\n'
@@ -124,8 +125,8 @@ def test_the_trial_at_the_start_has_less_time(played: Path, monkeypatch: pytest.
 # A program that signs as preflight does: SIGPIPE and Ctrl-C end it.
 SIGNING = """
 import signal, sys
-from bpfrec_host.formats.signatures import Unsigned
-from bpfrec_host.live.signer import Signer
+from bpfrec_tools.cli.signatures import Unsigned
+from bpfrec_tools.live.kept.signer import Signer
 
 signal.signal(signal.SIGPIPE, signal.SIG_DFL)
 signal.signal(signal.SIGINT, signal.default_int_handler)

@@ -6,13 +6,12 @@ from __future__ import annotations
 from pathlib import Path
 
 import pytest
-from bpfrec_host.live.arguments import read
-from bpfrec_host.live.folder import Folder, read_settings
-from bpfrec_host.live.names import Refusal
-from bpfrec_host.live.spans import USUAL_SPAN, judge_spans
+from bpfrec_tools.live.arguments import read
+from bpfrec_tools.live.kept.names import Refusal
+from bpfrec_tools.live.parts.folder import Folder, read_settings
+from bpfrec_tools.live.parts.spans import USUAL_SPAN, judge_spans
 from support import judge
 
-WANTED: dict[str, str] = {}
 KEEPS = "1,6 0 0 1,"
 WAYS = ["rx0=1", "rx1=2", "rx2=3"]
 

@@ -12,17 +12,18 @@ from pathlib import Path
 from typing import cast
 
 import pytest
-from bpfrec_host.live import standard_streams, system
-from bpfrec_host.live.children import HELD, Manner, start, status_of
-from bpfrec_host.live.console import Console
-from bpfrec_host.live.control import changes
-from bpfrec_host.live.control.changes import Change, Pipe
-from bpfrec_host.live.loop import Loop, Signals
-from bpfrec_host.live.model import Recording
-from bpfrec_host.live.outputs import Outputs
-from bpfrec_host.live.recorder import Recorder
-from bpfrec_host.live.status import Terminal
-from bpfrec_host.live.watches import Watches
+from bpfrec_tools.live.control import changes
+from bpfrec_tools.live.control.changes import Change, Pipe
+from bpfrec_tools.live.model import Recording
+from bpfrec_tools.live.parts import system
+from bpfrec_tools.live.parts.children import HELD, Manner, start, status_of
+from bpfrec_tools.live.parts.loop import Loop, Signals
+from bpfrec_tools.live.parts.outputs import Outputs
+from bpfrec_tools.live.parts.recorder import Recorder
+from bpfrec_tools.live.parts.watches import Watches
+from bpfrec_tools.live.reports import standard_streams
+from bpfrec_tools.live.reports.console import Console
+from bpfrec_tools.live.status import Terminal
 from support import judge, judge_quietly, wait_for
 
 # ---- streams

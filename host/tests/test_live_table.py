@@ -6,7 +6,7 @@ import itertools
 import random
 from collections.abc import Callable
 
-from bpfrec_host.live.table import ROWS, TIMERS, Event, State
+from bpfrec_tools.live.run.table import ROWS, TIMERS, Event, State
 from live_events import (
     EVENTS,
     FILES,

@@ -4,15 +4,22 @@ import contextlib
 import errno
 import functools
 import os
+import re
 import resource
 import time
 from collections.abc import Callable
 from pathlib import Path
 
 import pytest
-from bpfrec_host.live import arguments, expressions, folder, names, notify, operands
-from bpfrec_host.live.keeper import Keeper
-from bpfrec_host.live.names import Files, Names, Refusal
+from bpfrec.formats.limits import CHANNEL_KEYS
+from bpfrec.formats.names import Names
+from bpfrec_tools.live import arguments, operands
+from bpfrec_tools.live.help import MORE
+from bpfrec_tools.live.kept import names
+from bpfrec_tools.live.kept.keeper import Keeper
+from bpfrec_tools.live.kept.names import Files, Refusal
+from bpfrec_tools.live.parts import expressions, folder
+from bpfrec_tools.live.reports import notify
 from service import Manager
 from support import judge, judge_quietly, wait_for
 
@@ -57,6 +64,13 @@ def test_interfaces_and_their_filters_are_taken_apart(work: Path) -> None:
     ]:
         judge_quietly(f"{given}", refused(functools.partial(operands.operands_of, given)) == (2, line))
     judge("operands are taken apart, and what is missing is named", True)
+
+
+def test_help_says_which_keys_a_channel_of_a_flight_must_have() -> None:
+    """Those of record that have no value where they are missing, but for the feed."""
+    must = [key for key, numbers in CHANNEL_KEYS.items() if numbers is None or numbers.default is None]
+    found = re.search(r"A \[\[channel\]\] must have ([^,]*),", MORE)
+    judge("each", found and re.findall("`(.*?)`", found[1]) == [it for it in must if it != "feed"], (must, found))
 
 
 def test_options_of_the_capture_keep_their_order(capsys: pytest.CaptureFixture) -> None:

@@ -5,22 +5,28 @@ from __future__ import annotations
 import subprocess
 from collections.abc import Callable, Sequence
 from pathlib import Path
+from typing import cast
 
 import pytest
-from bpfrec_host.live import expressions
-from bpfrec_host.live.arguments import read
-from bpfrec_host.live.children import Manner, start
-from bpfrec_host.live.control.changes import Changes, Held
-from bpfrec_host.live.control.made_filters import MadeFilter, make
-from bpfrec_host.live.control.words import Word, word_of
-from bpfrec_host.live.end_of_run import EndOfRun
-from bpfrec_host.live.expressions import arguments_for, fault_of, is_in_words
-from bpfrec_host.live.folder import Folder, made_settings, read_settings
-from bpfrec_host.live.names import Refusal
+from bpfrec_tools.live.arguments import read
+from bpfrec_tools.live.control.changes import Changes, Held
+from bpfrec_tools.live.control.made_filters import MadeFilter, make
+from bpfrec_tools.live.control.words import Word, word_of
+from bpfrec_tools.live.kept import noted
+from bpfrec_tools.live.kept.facts import About, Writer
+from bpfrec_tools.live.kept.names import Files, Refusal
+from bpfrec_tools.live.kept.noted import FILTERS, note_filter
+from bpfrec_tools.live.parts import expressions
+from bpfrec_tools.live.parts.children import Manner, start
+from bpfrec_tools.live.parts.expressions import ALL, ALL_FRAMES, arguments_for, fault_of, is_in_words
+from bpfrec_tools.live.parts.folder import Folder, made_settings, read_settings
+from bpfrec_tools.live.parts.recorder import Recorder
+from bpfrec_tools.live.run.end_of_run import EndOfRun
 from support import judge, wait_for
 
-WANTED: dict[str, str] = {}
 KEEPS = "1,6 0 0 1,"
+# A recording of which nothing is asked.
+ANY = cast(Recorder, None)
 
 
 @pytest.mark.parametrize(
@@ -124,7 +130,7 @@ def test_lines_wait_with_what_the_recorder_gets_of_them(folder: Folder, keeps: b
     made.end(["tcpdump"], 0)
     line, change = held.asked()
     judge("then its listing is handed on", line == f"set 1 {made.listing}".encode() and held.is_ready())
-    changes.answered(change, True)
+    changes.answered(change, True, folder.top)
     is_kept = folder.kept_filter(1).exists() and folder.kept_filter(1).read_text() == KEEPS
     judge("it is kept for later recordings, or goes", is_kept == keeps and not made.listing.exists())
     judge("with its words", folder.kept_words(1) == ("udp port 5004" if keeps else None))
@@ -137,14 +143,81 @@ def test_lines_wait_with_what_the_recorder_gets_of_them(folder: Folder, keeps: b
     judge("a word is one", Held(b"stop").word is Word.STOP)
 
 
+NEEDS = "it needs a channel and a filter, as set 7 udp port 5004"
+
+
+@pytest.mark.parametrize(
+    "line, why",
+    [
+        ('set "bus B" arp', None),
+        ('set "bus B" ""', None),
+        ('set 1 ""', None),
+        ('set "bus B"', NEEDS),
+        ('set "bus B" ', NEEDS),
+        ("set 1 ", NEEDS),
+        ('set "bus C" arp', "no channel bus C: 1"),
+        ('set "bus C"', "no channel bus C: 1"),
+        ("set 2 arp", "no channel 2: 1"),
+    ],
+)
+def test_why_a_line_is_refused(folder: Folder, line: str, why: str | None) -> None:
+    folder.names = {1: "bus B"}
+    changes = Changes(folder, True, lambda _, listing: MadeFilter(listing))
+    judge(line, changes.why_refused(line.encode()) == why, changes.why_refused(line.encode()))
+
+
+def test_an_empty_filter_in_quotes_is_that_of_all_frames(folder: Folder) -> None:
+    asked: list[str] = []
+
+    def make_filter(text: str, listing: Path) -> MadeFilter:
+        asked.append(text)
+        return MadeFilter(listing)
+
+    held = Changes(folder, True, make_filter).held(b'set 1 ""')
+    judge("tcpdump makes it of nothing", asked == [""] and held.change.name == ALL, asked)
+
+
+def test_facts_have_the_words_of_each_filter_that_a_recording_had(
+    folder: Folder, monkeypatch: pytest.MonkeyPatch
+) -> None:
+    """Those that a line set while it went on too, also where facts were written ahead of that; and the next one's."""
+    given = read(["--every", "5", "out.ch11", "rx0"])
+    writer = Writer(given, folder, str(assembler(folder.top)), Files())
+    abouts = [About(number, f"out_{number}.ch11", number - 1, "2025-12-01T12:00:00Z") for number in (1, 2)]
+    changes = Changes(folder, True, lambda _, listing: MadeFilter(listing))
+
+    def begin(about: About) -> Path:
+        (folder.top / str(about.number)).mkdir()
+        writer.prepare(about)
+        return folder.of(about.number)
+
+    made = begin(abouts[0])
+    for at, (line, is_installed) in enumerate({"udp": True, "udp prt 5": False, "arp": True}.items(), 2):
+        change = changes.held(f"set 1 {line}".encode()).change
+        assert change.copy
+        change.copy.write_text(f"1,6 0 0 {at},")
+        changes.answered(change, is_installed, made)
+        writer.beginning(abouts[0])
+    begin(abouts[1])
+    with open(made / FILTERS, "a") as cut:
+        cut.write('{"channel": 1, "listing')
+    wanted = [[(ALL_FRAMES, None), ("1,6 0 0 2,", "udp"), ("1,6 0 0 4,", "arp")], [("1,6 0 0 4,", "arp")]]
+    found = [[(it["listing"], it.get("expression")) for it in writer.beginning(about)["filters"]] for about in abouts]
+    judge("in order", found == wanted, found)
+    judge("with their texts", all(it["text"] == "assembled\n" for it in writer.beginning(abouts[0])["filters"]))
+    monkeypatch.setattr(noted, "MOST_FILTERS_LEN", 1)
+    note_filter(made, 1, folder.kept_filter(1), "too many")
+    judge("there is an end", len(writer.beginning(abouts[0])["filters"]) == 3)
+
+
 def test_a_run_ends_once_after_its_time_from_the_first_recording_on() -> None:
     ended: list[int] = []
     end = EndOfRun(3, lambda: ended.append(1))
     judge("not before a recording has begun", end.deadline() is None)
-    end.begin()
+    end.begun(ANY)
     moment = end.deadline()
     assert moment is not None
-    end.begin()
+    end.begun(ANY)
     judge("from the first one on", end.deadline() == moment)
     end.tick(moment - 0.1)
     judge("not before", ended == [])
@@ -152,7 +225,7 @@ def test_a_run_ends_once_after_its_time_from_the_first_recording_on() -> None:
     end.tick(moment + 9)
     judge("once", ended == [1] and end.deadline() is None)
     forever = EndOfRun(None, lambda: ended.append(2))
-    forever.begin()
+    forever.begun(ANY)
     judge("never without a time", forever.deadline() is None)
 
 

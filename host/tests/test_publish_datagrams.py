@@ -9,19 +9,18 @@ from pathlib import Path
 from typing import NamedTuple
 
 import pytest
-from bpfrec_host.formats.ch11.packet import Header
-from bpfrec_host.formats.transfer import Datagram, Part, datagram_in
-from bpfrec_host.publish.datagrams import Datagrams
-from bpfrec_host.receive import output
-from bpfrec_host.receive.assembling import Assembling
-from bpfrec_host.receive.output import Files
-from bpfrec_host.receive.window import MOST_BEHIND, WIDTH, Window
+from bpfrec.formats.packet import Header
+from bpfrec.formats.transfer import Datagram, Part, datagram_in
+from bpfrec_tools.publish.datagrams import Datagrams
+from bpfrec_tools.receive import output
+from bpfrec_tools.receive.assembling import Assembling
+from bpfrec_tools.receive.output import Files
+from bpfrec_tools.receive.window import MOST_BEHIND, WIDTH, Window
 from frames import packet_of
 from support import judge, judge_quietly
 from whole_file import SETUP
 from whole_file_parts import parts_of, replaced, sample
 
-WANTED: dict[str, str] = {}
 SEEDS = range(60)
 TURN = 1 << 24
 

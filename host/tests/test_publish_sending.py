@@ -12,12 +12,11 @@ import time
 from typing import Any, Optional
 
 import pytest
-from bpfrec_host.addresses import udp_address
-from bpfrec_host.publish import sending
-from bpfrec_host.publish.sending import Route, Sending, opened
+from bpfrec_tools.cli.addresses import udp_address
+from bpfrec_tools.publish import sending
+from bpfrec_tools.publish.sending import Route, Sending, opened
 from support import judge, judge_quietly
 
-WANTED: dict[str, str] = {}
 ADDRESS = udp_address("127.0.0.1:50000")
 
 

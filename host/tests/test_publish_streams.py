@@ -11,13 +11,13 @@ from typing import Any, Optional
 
 import pytest
 import tomllib
-from bpfrec_host.chapter11.setup import Asked
-from bpfrec_host.formats.facts import SCALE_UNKNOWN
-from bpfrec_host.publish.datagrams import Datagrams
-from bpfrec_host.publish.recording import Recording
-from bpfrec_host.publish.stream import Broken
-from bpfrec_host.publish.streaming import Streaming
-from bpfrec_host.streams import Refused
+from bpfrec.formats.facts import SCALE_UNKNOWN
+from bpfrec_tools.chapter11.setup import Asked
+from bpfrec_tools.cli.streams import Refused
+from bpfrec_tools.publish.datagrams import Datagrams
+from bpfrec_tools.publish.recording import Recording
+from bpfrec_tools.publish.stream import Broken
+from bpfrec_tools.publish.streaming import Streaming
 from drawn_recording import DrawnRecording, drawn_insns
 from frames import FRAMES, body_of
 from ground import packets_in, write_facts
@@ -25,7 +25,6 @@ from support import judge, judge_quietly
 from whole_file import Origin, Setup
 from whole_file_parts import ORIGIN, recorded, sample_recording
 
-WANTED: dict[str, str] = {}
 # Gives back what it is given, keeps SETUP, and says what it did.
 PLAYED = """#!/bin/sh
 here=$(dirname "$0")

@@ -20,6 +20,11 @@ from small_recordings import FRAME, IN_ORDER, NOON, ONE_ORIGIN, counters, packet
 from support import SECOND, judge, judge_quietly
 
 
+def placed(frame: bpfrec.Frame) -> tuple[int, int, bytes]:
+    """Where a frame stands among others."""
+    return frame.channel, frame.counter, frame.bytes
+
+
 class OfNumpy:
     """An integer of another type than int, as numpy has its own."""
 
@@ -66,9 +71,12 @@ def test_what_no_frame_with_its_check_sequence_is_is_skipped_and_counted(work: P
     """Another content, or fewer than 18 bytes; in both profiles."""
     frames = [(1, 1 << 28, FRAME), (2, 0, FRAME[:17]), (3, 0, FRAME[:18]), (4, 3 << 28, FRAME), (5, 0, b"")]
     opened = bpfrec.open(written(work, frames_packet(frames, 0, 1, is_summed)))
-    judge("one is left", counters(opened) == [(1, 3)])
-    judge("four are counted", opened.skipped == 4)
-    judge("and no more by a second reading", counters(opened) == [(1, 3)] and opened.skipped == 4)
+    reading = opened.frames()
+    judge("none so far", reading.skipped == 0)
+    judge("one is left", counters(reading) == [(1, 3)])
+    judge("four are counted", reading.skipped == 4)
+    second = opened.frames(1)
+    judge("by each reading its own", counters(second) == [(1, 3)] and (second.skipped, reading.skipped) == (4, 4))
 
 
 def test_a_frame_has_the_version_that_was_in_force(work: Path) -> None:
@@ -82,7 +90,7 @@ def test_frames_stand_packet_by_packet_or_by_time(work: Path) -> None:
     judge("as in the recording", counters(opened) == IN_ORDER == counters(opened.frames(by_time=False)))
     by_time = [it for it in opened.frames(by_time=True)]
     judge("by time", counters(by_time) == sorted(IN_ORDER, key=lambda it: it[1]), counters(by_time))
-    judge("the same frames", sorted(by_time) == sorted(opened))
+    judge("the same frames", sorted(by_time, key=placed) == sorted(opened, key=placed))
 
 
 def test_of_equal_times_the_lower_channel_goes_first(work: Path) -> None:
@@ -98,7 +106,7 @@ def test_times_are_those_of_the_facts(work: Path, origins: list[tuple]) -> None:
     """Of a clock that was set, of TAI and of times before 1970 too, to the nanosecond."""
     ticks = [0, 8, 9, 16, 17, 31, 32, 33, 2**40]
     opened = bpfrec.open(written(work, packet(1, ticks), origins))
-    found = [it.time for it in opened]
+    found = [it.time_ns for it in opened]
     judge("of each frame", found == moments_by(origins, ticks), found)
     moments = [it.datetime for it in opened]
     wanted = [datetime(1970, 1, 1, tzinfo=timezone.utc) + timedelta(microseconds=it // 1_000) for it in found if it]
@@ -111,7 +119,7 @@ def test_a_time_that_nobody_knows_is_none(work: Path) -> None:
     late = [("1764590400.250000000", 9, None)]
     for origins, wanted in [(None, [0, 0, 0]), (UNKNOWN_SCALE, [0, 0, 0]), (mixed, [0, 0, 1]), (late, [0, 1, 1])]:
         found = list(bpfrec.open(written(work, packet(1, [8, 9, 17]), origins)))
-        judge_quietly(f"{origins}", [it.time is not None for it in found] == wanted, found)
+        judge_quietly(f"{origins}", [it.time_ns is not None for it in found] == wanted, found)
         judge_quietly("nor is there a datetime", [it.datetime is not None for it in found] == wanted)
         judge_quietly("by the rule", not origins or wanted == [is_utc(origins, it) for it in (8, 9, 17)])
     judge("and all others are known", True)
@@ -123,14 +131,14 @@ def test_facts_are_those_beside_the_recording_or_those_that_are_named(work: Path
     other.write_text(json.dumps(facts_of_run([("7.000000000", 0, None)])))
     table: list[tuple[Any, Optional[int]]] = [(None, NOON), (True, NOON), (False, None), (other, 7 * SECOND)]
     for given, wanted in table:
-        judge_quietly(f"facts={given}", [it.time for it in bpfrec.open(path, facts=given)] == [wanted])
+        judge_quietly(f"facts={given}", [it.time_ns for it in bpfrec.open(path, facts=given)] == [wanted])
     other.write_text("{}")
     with pytest.raises(bpfrec.BadFacts, match="other.json: no facts of a recording: facts isn't 1"):
         bpfrec.open(path, facts=other)
     with pytest.raises(FileNotFoundError):
         bpfrec.open(path, facts=work / "none.json")
     Path(f"{path}.json").unlink()
-    judge("without facts there are no times", [it.time for it in bpfrec.open(path)] == [None])
+    judge("without facts there are no times", [it.time_ns for it in bpfrec.open(path)] == [None])
     with pytest.raises(FileNotFoundError):
         bpfrec.open(path, facts=True)
 
@@ -171,7 +179,7 @@ def test_a_channel_that_no_recording_has_is_refused(work: Path) -> None:
     ]
     every += [("1", "named 1; an ID is given as an int")]
     for asked, named in every:
-        with pytest.raises(ValueError, match=f"x.ch11: no channel {named}$"):
+        with pytest.raises(bpfrec.UnknownChannel, match=f"x.ch11: no channel {named}$"):
             opened.frames(channels=asked)
 
 
@@ -203,10 +211,10 @@ def test_a_slice_has_the_frames_from_one_time_on_and_before_another(work: Path, 
     """At each pair of the frames' own times, of a clock that was set too."""
     opened = bpfrec.open(written(work, recording(), origins))
     every = [it for it in opened]
-    times = sorted({it.time for it in every if it.time is not None})
+    times = sorted({it.time_ns for it in every if it.time_ns is not None})
     for begin in [None, *times, times[-1] + 1]:
         for end in [None, *times]:
-            wanted = [it for it in every if (begin or 0) <= (it.time or 0) < (end or 1 << 63)]
+            wanted = [it for it in every if (begin or 0) <= (it.time_ns or 0) < (end or 1 << 63)]
             judge_quietly(f"{begin} to {end}", list(opened.frames(begin=begin, end=end)) == wanted)
     judge(f"{len(times)} times", len(times) == 8)
 
@@ -240,7 +248,6 @@ def test_what_is_no_time_is_refused(work: Path, name: str, time: Any) -> None:
 def test_a_slice_of_a_recording_without_times_is_refused(work: Path, origins: Any, why: str) -> None:
     with pytest.raises(bpfrec.NoTimes, match=f"^/.*/x.ch11: the {why}|there are no facts"):
         bpfrec.open(written(work, recording(), origins)).frames(begin=0)
-    judge("it is a ValueError", issubclass(bpfrec.NoTimes, ValueError))
 
 
 def test_a_slice_reads_no_packet_that_is_outside_of_it(work: Path) -> None:

@@ -11,6 +11,7 @@ import os
 import pickle
 import tracemalloc
 import warnings
+from dataclasses import fields, is_dataclass, replace
 from pathlib import Path
 from typing import Callable
 
@@ -99,12 +100,12 @@ def test_a_recording_that_is_cut_anywhere_has_the_frames_before(work: Path) -> N
 def test_no_byte_leads_to_another_exception(work: Path) -> None:
     """Whatever one byte is; and frames are never others, since both checksums are judged."""
     data, whole = recording(), list(bpfrec.open(written(work, recording())))
-    plain = [it._replace(version=None) for it in whole]
+    plain = [replace(it, version=None) for it in whole]
     for at in range(0, len(data), 3):
         for value in (0x00, 0xFF):
             path = written(work, data[:at] + bytes([value]) + data[at + 1 :])
             for skip_damage in (False, True):
-                found = [it._replace(version=None) for it in frames_until_damage(path, skip_damage)]
+                found = [replace(it, version=None) for it in frames_until_damage(path, skip_damage)]
                 judge_quietly(f"byte {at} set to {value}", all(it in plain for it in found), found)
     judge("none does", True)
 
@@ -122,9 +123,20 @@ def test_what_is_no_recording_is_refused(work: Path) -> None:
             bpfrec.open(other)
     with pytest.raises(FileNotFoundError):
         bpfrec.open(work / "none")
-    judge(
-        "they are a ValueError", issubclass(bpfrec.NotARecording, ValueError) and issubclass(bpfrec.Damaged, ValueError)
-    )
+
+
+def test_what_the_package_raises_of_recordings_is_its_error_and_no_value_error(work: Path) -> None:
+    """So damage is apart from a wrong argument; a channel that there isn't is a LookupError too."""
+    given = [getattr(bpfrec, it) for it in bpfrec.__all__]
+    raised = [it for it in given if isinstance(it, type) and issubclass(it, Exception)]
+    judge("all of them", len(raised) == 6 and all(issubclass(it, bpfrec.Error) for it in raised), raised)
+    judge("and none is a ValueError", not any(issubclass(it, ValueError) for it in raised))
+    judge("but one a LookupError", [it for it in raised if issubclass(it, LookupError)] == [bpfrec.UnknownChannel])
+    path = written(work, recording()[:-1])
+    with pytest.raises(bpfrec.Damaged) as caught:
+        list(bpfrec.open(path))
+    copied = pickle.loads(pickle.dumps(caught.value))
+    judge("each can be copied", (copied.args, str(copied)) == (caught.value.args, str(caught.value)), copied)
 
 
 def test_behind_a_damaged_program_frames_have_the_version_before(work: Path) -> None:
@@ -250,14 +262,14 @@ def test_all_that_is_promised_says_what_it_means() -> None:
         judge_quietly(f"{name} has a text", inspect.getdoc(thing))
         for attribute in public_of(thing) if inspect.isclass(thing) else []:
             text = inspect.getdoc(inspect.getattr_static(thing, attribute)) or ""
-            is_field = attribute in getattr(thing, "_fields", ())
+            is_field = is_dataclass(thing) and attribute in {it.name for it in fields(thing)}
             judge_quietly(f"{name}.{attribute}", is_field or len(text) > 20, text)
     judge("and its types are promised", (Path(bpfrec.__file__).parent / "py.typed").exists())
 
 
 def test_the_sources_are_of_python_3_9() -> None:
     """Of the package and of all that it may import; mypy reads them as of 3.9 too."""
-    files = [*(ROOT / "host/bpfrec").rglob("*.py"), *(ROOT / "host/bpfrec_host").rglob("*.py")]
+    files = [*(ROOT / "host/bpfrec").rglob("*.py"), *(ROOT / "host/bpfrec_tools").rglob("*.py")]
     for file in files:
         ast.parse(file.read_text(encoding="utf-8"), str(file), feature_version=(3, 9))
     judge(f"{len(files)} files", len(files) > 100)

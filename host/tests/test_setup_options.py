@@ -10,13 +10,12 @@ from pathlib import Path
 
 import pytest
 import tomllib
-from bpfrec_host.chapter11.options import attribute_of
+from bpfrec_tools.chapter11.options import attribute_of
 from expected_facts import facts_of_run
 from reading import SAMPLES
 from setups import CHAPTER11
 from support import TOOLS, judge, outcome, run
 
-WANTED: dict[str, str] = {}
 PUBLISH = TOOLS / "publish"
 # Names that some reader takes for one of the setup record's own.
 KEPT = [

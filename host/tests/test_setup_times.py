@@ -6,12 +6,12 @@ import shutil
 from pathlib import Path
 
 import pytest
+import tomllib
 from expected_facts import TAI_37, THREE_ORIGINS, UNKNOWN_SCALE
 from reading import SAMPLES
-from setups import setup_by, with_facts
-from support import judge
+from setups import CHAPTER11, setup_by, with_facts
+from support import judge, outcome
 
-WANTED: dict[str, str] = {}
 ONE: list[tuple] = [("1764590400.250000000", 0, None)]
 
 
@@ -80,3 +80,63 @@ def test_origins_are_those_of_the_facts(work: Path, name: str) -> None:
     with_facts(recording, noted)
     found = setup_by(recording, *words)
     judge(name, {key: value for key, value in found.items() if key in ("origins", *TAI)} == due, found)
+
+
+TURNED = "1764590400.000000000", "1736442902.328934400"
+# Of several recordings: what the facts of one have, the options, and the origins in its table; whether a line says that
+# others are left out.
+STEPS: dict[str, tuple[list, list[str], list, bool]] = {
+    "one": (ONE, [], [BEGUN], False),
+    "by a second": (
+        [*ONE, ("1764590399.250000000", 9, None), ("1764590400.250000000", 99, None)],
+        [],
+        [BEGUN, origin(9, "1764590399.250000000"), origin(99, "1764590400.250000000")],
+        False,
+    ),
+    "back by more": ([*ONE, ("1764590399.249999999", 9, None)], [], [origin(0, "1764590399.249999999")], True),
+    "on by more": ([*ONE, ("1764590401.250000001", 9, None)], [], [origin(0, "1764590401.250000001")], True),
+    "the last of them counts": (
+        [*ONE, ("3.000000000", 9, None), ("4.500000000", 10, None), ("5.000000000", 11, None)],
+        [],
+        [origin(0, "4.500000000"), origin(11, "5.000000000")],
+        True,
+    ),
+    "one that holds for no counter": (
+        [*ONE, ("3.000000000", 9, None), ("1764590400.250000001", 9, None)],
+        [],
+        [BEGUN, origin(9, "1764590400.250000001")],
+        False,
+    ),
+    "of two scales": (TAI_37, [], [BEGUN, origin(17, "1764590437.250000123", **TAI)], False),
+    "a scale that is said": (
+        [("1764590437.250000000", 0, None, None), ("1764590400.250000000", 9, None)],
+        ["--tai=37"],
+        [origin(0, "1764590437.250000000", **UNKNOWN), origin(9, "1764590400.250000000")],
+        False,
+    ),
+    "which is another": (
+        [("1764590437.250000000", 0, None, None), ("1764590400.250000000", 9, None)],
+        ["--tai=39"],
+        [origin(0, "1764590400.250000000")],
+        True,
+    ),
+    "counters that begin at 0 again": (
+        [(TURNED[0], 0, None), (TURNED[1], 2**47, None)],
+        [],
+        [origin(0, TURNED[0]), origin(2**47, TURNED[1])],
+        False,
+    ),
+}
+
+
+@pytest.mark.parametrize("name", STEPS)
+def test_of_several_recordings_origins_before_a_clock_was_set_far_are_left_out(work: Path, name: str) -> None:
+    recordings = [Path(shutil.copy(SAMPLES[1], work / it)) for it in ("one.ch11", "two.ch11")]
+    noted, words, due, is_said = STEPS[name]
+    for recording, host in zip(recordings, ("fc1", "fc2")):
+        beside = with_facts(recording, noted if host == "fc2" else ONE, host=host)
+    done = outcome(*CHAPTER11, "--print-setup", *words, *recordings)
+    said = "the clock was set by over a second: frames before that have times by the clock as it was set then"
+    judge(name, (done.returncode, done.stderr) == (0, f"bpfrec export: {beside}: {said}\n" if is_said else ""), done)
+    found = [it["origins"] for it in tomllib.loads(done.stdout)["recording"]]
+    judge(f"{name}: origins", found == [[BEGUN], due], found)

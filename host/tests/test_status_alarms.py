@@ -6,7 +6,8 @@ from collections.abc import Iterable
 from typing import Any
 
 import pytest
-from bpfrec_host.formats.clock_state import ClockState
+from bpfrec.formats.clock_state import ClockState
+from bpfrec_tools.live.status.view import State
 from scripted import (
     Audits,
     ChannelView,
@@ -45,7 +46,7 @@ CHANNEL = ChannelView(
 RECORDING = RecordingView(1, "flight.ch11", 100.0, 1 << 20, 1_000.0, 0, None)
 VIEW = View(
     now=1_100.0,
-    state="recording",
+    state=State.RECORDING,
     uptime=100.0,
     recording=RECORDING,
     disk=DiskView(10**9, 10**6),
@@ -80,7 +81,7 @@ CASES = {
         "alarm",
     ),
     "publisher": (
-        VIEW._replace(state="ended", ground=(GroundView("a:1", 9, 0, 0, False),)),
+        VIEW._replace(state=State.ENDED, ground=(GroundView("a:1", 9, 0, 0, False),)),
         VIEW._replace(ground=(GroundView("b:1", 9, 0, 0, True), GroundView("a:1", 9, 0, 0, False))),
         "ground",
         "alarm",
@@ -173,7 +174,7 @@ CASES = {
         "alarm",
     ),
     "nobody knows the clock": (
-        VIEW._replace(clock=ClockView(ClockState(), 1.0), state="ended"),
+        VIEW._replace(clock=ClockView(ClockState(), 1.0), state=State.ENDED),
         VIEW._replace(clock=ClockView(ClockState(), 1.0)),
         "clock",
         "alarm",
@@ -221,14 +222,14 @@ CASES = {
         "warning",
     ),
     "nothing is recorded": (
-        VIEW._replace(state="waiting", recording=None),
-        VIEW._replace(state="waiting", recording=None, recordings=NO[1:]),
+        VIEW._replace(state=State.WAITING, recording=None),
+        VIEW._replace(state=State.WAITING, recording=None, recordings=NO[1:]),
         "waiting",
         "alarm",
     ),
     "nothing is recorded, and the run goes on": (
-        VIEW._replace(state="waiting", recording=None, recordings=NO[1:], is_ending=True),
-        VIEW._replace(state="waiting", recording=None, recordings=NO[1:]),
+        VIEW._replace(state=State.WAITING, recording=None, recordings=NO[1:], is_ending=True),
+        VIEW._replace(state=State.WAITING, recording=None, recordings=NO[1:]),
         "waiting",
         "alarm",
     ),
@@ -247,7 +248,7 @@ def test_a_run_that_is_well_has_no_alarm() -> None:
 
 
 def ended(views: Iterable[View]) -> Iterable[View]:
-    return [it._replace(state="ended", recording=None) for it in views]
+    return [it._replace(state=State.ENDED, recording=None) for it in views]
 
 
 def test_an_ended_run_keeps_its_losses_and_no_other_alarm() -> None:
@@ -255,7 +256,7 @@ def test_an_ended_run_keeps_its_losses_and_no_other_alarm() -> None:
     past = [case for case in CASES if CASES[case][2] not in ("lost", "was_lost", "audit", "sync_fault", "unsigned")]
     told = {case: names(view) for case, view in zip(past, ended(CASES[it][1] for it in past)) if names(view)}
     judge("a run that has ended has none of its channels", not told, told)
-    lost = VIEW._replace(state="ended", recording=None, channels=of_channel(counts=LOST, lost_age=5.0).channels)
+    lost = VIEW._replace(state=State.ENDED, recording=None, channels=of_channel(counts=LOST, lost_age=5.0).channels)
     judge("but what was lost", names(lost) == [("lost", "alarm")])
 
 

@@ -165,7 +165,7 @@ def test_without_descriptors_the_server_waits_and_goes_on(work: Path) -> None:
     script = f"""
 import resource, socket, sys, time
 sys.path.insert(0, {str(ROOT / "host")!r})
-from bpfrec_host.live import status
+from bpfrec_tools.live import status
 it = status.Status(endpoint=status.endpoint_in("0"))
 it.start()
 place = (str(it.server.endpoint.address), it.server.endpoint.port)
@@ -191,7 +191,7 @@ def test_clients_write_nothing_on_standard_error(work: Path) -> None:
     script = f"""
 import socket, struct, sys, time
 sys.path.insert(0, {str(ROOT / "host")!r})
-from bpfrec_host.live import status
+from bpfrec_tools.live import status
 it = status.Status(endpoint=status.endpoint_in("0"))
 it.start()
 it.tick(time.monotonic())

@@ -9,10 +9,11 @@ from pathlib import Path
 from typing import NamedTuple
 
 import pytest
-from bpfrec_host.formats.clock_state import ClockState
-from bpfrec_host.live.ports import Sent
-from bpfrec_host.live.status.as_json import kept_rates, offered_rates
-from bpfrec_host.live.status.view import Second
+from bpfrec.formats.clock_state import ClockState
+from bpfrec_tools.live.run.ports import Sent
+from bpfrec_tools.live.status.alarms import Name
+from bpfrec_tools.live.status.as_json import kept_rates, offered_rates
+from bpfrec_tools.live.status.view import Second
 from schemas import FORMATS, faults, schema_of
 from scripted import BEGIN, Alarm, Counts, Flight, Setup, Status, View, Wire, alarms, as_json, metrics, wires_of
 from support import judge, judge_quietly, outcome, present
@@ -266,7 +267,7 @@ def test_the_page_has_each_metric_and_each_alarm(flights: dict) -> None:
     }
     judge("the metrics are those of the page", named == told, named ^ told)
     listed = set(re.findall(r"^\| `(\w+)` \| (?:alarm|warning) \|", alarm_rows, re.MULTILINE))
-    judge("the alarms too", listed == set(metrics.ALARMS), listed ^ set(metrics.ALARMS))
+    judge("the alarms too", listed == {it.value for it in Name}, listed)
     names = set(schema_of("status")["$defs"]["alarm"]["properties"]["name"]["enum"])
     judge("and those of the schema", names == listed, names ^ listed)
 

@@ -1,6 +1,6 @@
 """Tries how the status follows a recording that grows: in any pieces, cut, overwritten, damaged, and what it costs.
 
-What it should find is taken from the reader of whole recordings (host/bpfrec_host/formats/ch11), which sees all frames.
+What it should find is taken from the reader of whole recordings (host/bpfrec_tools/formats/ch11), which sees all frames.
 """
 
 from __future__ import annotations
@@ -13,9 +13,11 @@ from collections import Counter
 from pathlib import Path
 
 import pytest
-from bpfrec_host.formats.ch11.follow import MOST_FAULTS, MOST_PACKETS
+from bpfrec.formats.body import Frames
+from bpfrec.formats.follow import MOST_FAULTS, MOST_PACKETS
+from bpfrec.formats.records import End
 from frames import end_packet, header_of, packet_of
-from reading import SAMPLES, ch11, packets_of
+from reading import SAMPLES, packets_of
 from recorder import RECORDINGS, make_feed, record, write_settings
 from scripted import Flight, Growth, Kept, Wire, alarms, frames, program
 from support import BPFREC, judge, judge_quietly, outcome
@@ -33,7 +35,7 @@ def wanted_of(data: bytes) -> list:
     """What each packet of whole recordings tells, by the reader that sees all of it."""
     found: list[object] = []
     for packet in packets_of(data):
-        if isinstance(packet.what, ch11.Frames):
+        if isinstance(packet.what, Frames):
             odd = packet.header.data_len - 4 - 12 * len(packet.what.counters)
             found.append(Kept(packet.header.channel, len(packet.what.counters), odd))
         else:
@@ -122,7 +124,7 @@ def test_a_recording_by_the_recorder_is_followed_whole(work: Path) -> None:
     for piece in told:
         if isinstance(piece, Kept):
             kept[piece.channel] += piece.frames
-    ends = {it.channel: it.kept for it in told if isinstance(it, ch11.End)}
+    ends = {it.channel: it.kept for it in told if isinstance(it, End)}
     judge("as many frames as its ends say", ends == {1: kept[1], 2: 0} and kept[1] > 2_000, (ends, kept))
 
 

@@ -320,11 +320,11 @@ def test_the_page_is_in_the_one_file_that_is_installed(work: Path) -> None:
     script = f"""
 import sys
 sys.path.insert(0, {str(work / "host.pyz")!r})
-from bpfrec_host.live.status.page import PAGE
-import bpfrec_host
-print(bpfrec_host.__file__.startswith({str(work)!r}), len(PAGE))
+from bpfrec_tools.live.status.server import PAGE
+import bpfrec_tools
+print(bpfrec_tools.__file__.startswith({str(work)!r}), len(PAGE))
 """
-    size = (ROOT / "host/bpfrec_host/live/status/page.html").stat().st_size
+    size = (ROOT / "host/bpfrec_tools/live/status/page.html").stat().st_size
     told = run(sys.executable, "-c", script, cwd=work, env={**os.environ, "PYTHONPATH": ""})
     judge("it is whole", told.split() == ["True", str(size)], told)
 

@@ -9,17 +9,17 @@ from types import SimpleNamespace
 from typing import Any, NamedTuple, cast
 
 import pytest
-from bpfrec_host.formats.ch11.packet import Header
-from bpfrec_host.formats.clock_state import ClockState
-from bpfrec_host.live.folder import Folder
-from bpfrec_host.live.observers import Observers
-from bpfrec_host.live.operands import Route
-from bpfrec_host.live.ports import Counts, Observer, Sent, Setup
-from bpfrec_host.live.recorder import Recorder
-from bpfrec_host.live.status import as_json, metrics
-from bpfrec_host.live.status.growth import Kept, kept_by
-from bpfrec_host.live.status.model import Model
-from bpfrec_host.live.status.view import (
+from bpfrec.formats.clock_state import ClockState
+from bpfrec.formats.packet import Header
+from bpfrec_tools.live.operands import Route
+from bpfrec_tools.live.parts.folder import Folder
+from bpfrec_tools.live.parts.recorder import Recorder
+from bpfrec_tools.live.reports.observers import Observers
+from bpfrec_tools.live.run.ports import Counts, Observer, Sent, Setup
+from bpfrec_tools.live.status import alarms, as_json, metrics
+from bpfrec_tools.live.status.growth import Kept, kept_by
+from bpfrec_tools.live.status.model import Model
+from bpfrec_tools.live.status.view import (
     Audits,
     ChannelView,
     ClockView,
@@ -31,6 +31,7 @@ from bpfrec_host.live.status.view import (
     MarkView,
     RecordingView,
     Second,
+    State,
     SyncView,
     View,
 )
@@ -61,7 +62,7 @@ CHANNEL = ChannelView(
 )
 VIEW = View(
     now=1_000.0,
-    state="recording",
+    state=State.RECORDING,
     uptime=71.5,
     recording=RecordingView(3, "f.ch11", 72.5, 301, 302.0, 303, "a fault"),
     disk=DiskView(304, 305.0),
@@ -177,7 +178,7 @@ def test_each_metric_is_the_one_that_it_stands_for() -> None:
     labels = 'channel="7",interface="eth0",name="bus A"'
     wanted: dict[str, float] = {**OF_RUN, f'channel_filter_info{{{labels},filter="udp"}}': 1}
     wanted |= {f"channel_{name}{{{labels}}}": value for name, value in OF_CHANNEL.items()}
-    wanted |= {f'alarms{{name="{name}"}}': 0 for name in metrics.ALARMS}
+    wanted |= {f'alarms{{name="{name.value}"}}': 0 for name in alarms.Name}
     judge("all and nothing else", found == wanted, set(found.items()) ^ set(wanted.items()))
 
 

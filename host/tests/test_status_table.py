@@ -15,7 +15,7 @@ from pathlib import Path
 from typing import Any
 
 import pytest
-from bpfrec_host.formats.clock_state import ClockState
+from bpfrec.formats.clock_state import ClockState
 from scripted import Flight, Terminal, View, Wire, alarms, table, wires_of
 from support import judge, judge_quietly
 

@@ -6,7 +6,7 @@ from collections.abc import Iterator
 from pathlib import Path
 
 import pytest
-from bpfrec_host.tell.command import line_of, socket_of
+from bpfrec_tools.tell.command import line_of, socket_of
 from support import TOOLS, judge, outcome
 
 
@@ -35,10 +35,46 @@ def test_where_there_is_none_the_name_is_said(bound: Path) -> None:
         judge("nobody listens", done.returncode == 3 and f"bpfrec tell: {name}: nobody listens" in done.stderr, done)
 
 
+# What [run] says, and the socket that is looked for beside the settings.
+MEANT = {
+    'control = "other.control"': "other.control",
+    'out = "rec/flight.ch11"': "rec/flight.control",
+    'every = "5s"': "set.control",
+    'out = "o.ch11"\ncontrol = "/nowhere/c"': "/nowhere/c",
+}
+
+
+@pytest.mark.parametrize("run", MEANT)
+def test_the_socket_of_settings_in_another_folder(bound: Path, run: str) -> None:
+    """Beside the settings, or in the folder where live was started; where there is none it is named."""
+    folder = bound / "host2"
+    (folder / "rec").mkdir(parents=True)
+    (folder / "set.toml").write_text(f"[run]\n{run}\n")
+    wanted = os.path.join("host2", MEANT[run])
+    judge("the one that is missing", socket_of("host2/set.toml") == wanted, socket_of("host2/set.toml"))
+    done = outcome(TOOLS / "tell", "host2/set.toml", "status", cwd=bound)
+    line = f"bpfrec tell: {wanted}: nobody listens: No such file or directory\n"
+    judge("it is said", (done.returncode, done.stderr) == (3, line), done)
+    (folder / "set.toml").write_text('[run]\nout = "o.ch11"\ncontrol = "flight.control"\n')
+    judge("one in this folder", socket_of("host2/set.toml") == "flight.control")
+    with socket.socket(socket.AF_UNIX) as listening:
+        listening.bind("host2/flight.control")
+        judge("one beside the settings goes ahead", socket_of("host2/set.toml") == "host2/flight.control")
+
+
+def test_settings_whose_run_is_no_table_are_refused(work: Path) -> None:
+    (work / "set.toml").write_text("run = 3\n")
+    done = outcome(TOOLS / "tell", "set.toml", "status", cwd=work)
+    line = "bpfrec tell: set.toml: run: a number, and it must be a table, as [run] begins it\n"
+    judge("it says so", (done.returncode, done.stderr) == (2, line), done)
+
+
 LINES: dict[str, list[str]] = {
     "set 7 udp port 5004": ["set", "7", "udp", "port", "5004"],
     "set 7 udp port 53": ["set", "7", "udp port 53"],
     'set "bus A" udp': ["set", "bus A", "udp"],
+    'set "bus A" ""': ["set", "bus A", ""],
+    "set 7": ["set", "7"],
     "mark gear up now": ["mark", "gear up", "now"],
     "status": ["status"],
     "": [],

@@ -5,14 +5,18 @@ from __future__ import annotations
 import argparse
 import time
 from datetime import datetime, timezone
+from types import SimpleNamespace
+from typing import cast
 
 import pytest
-from bpfrec_host.formats.facts import Facts, utc_of
-from bpfrec_host.formats.moments import moment_of
-from bpfrec_host.formats.time_of_day import first_from, last_to, time_of_day
-from bpfrec_host.live.arguments import read
-from bpfrec_host.pcapng.times import Asked, Time, Times, dated, time_of
-from bpfrec_host.streams import Refused
+from bpfrec.core.index import Index
+from bpfrec.core.recordings import Recording
+from bpfrec.core.times import Time, Times
+from bpfrec.formats.facts import Facts, utc_of
+from bpfrec_tools.cli.moments import first_from, last_to, moment_of, time_of_day
+from bpfrec_tools.cli.streams import Refused
+from bpfrec_tools.export.times import Asked, beginning_of, dated, time_of
+from bpfrec_tools.live.arguments import read
 from conversion import moments
 from expected_facts import UNKNOWN_SCALE, facts_of_run
 from support import SECOND, judge, judge_quietly
@@ -51,9 +55,14 @@ def test_a_time_has_its_moment_on_either_side_of_another() -> None:
     judge("of today, yesterday and tomorrow", True)
 
 
-def times(begun: object = "2025-12-01T12:00:00Z", origins: list | None = None) -> Times:
-    """The times of a recording that began then."""
-    return Times("x.ch11", Facts({**facts_of_run(origins or [(NOON, 0, None)]), "begun": begun}))
+def recording(facts: Facts | None) -> Recording:
+    """A recording with these facts, of which nothing else is known."""
+    return Recording(cast(Index, SimpleNamespace(path="x.ch11")), Times(facts))
+
+
+def times(begun: object = "2025-12-01T12:00:00Z", origins: list | None = None) -> Recording:
+    """A recording that began then."""
+    return recording(Facts({**facts_of_run(origins or [(NOON, 0, None)]), "begun": begun}))
 
 
 @pytest.mark.parametrize(
@@ -108,14 +117,14 @@ def test_a_recording_began_by_the_clock_as_it_was_set_last() -> None:
         ("2025-12-01T12:00:01Z", back, "2025-12-01 11:00:01"),
         ("2025-12-01T16:00:00Z", back, "2025-12-01 16:00:00"),
     ]:
-        found = times(begun, origins).beginning()
+        found = beginning_of(times(begun, origins))
         judge_quietly(f"{begun} {utc_of(found)}", found == utc(wanted))
     judge("each by the last origin", True)
 
 
 def test_without_facts_that_know_the_day_a_time_needs_its_date() -> None:
-    for recording, why in [
-        (Times("x.ch11", None), "no facts beside it, so times are seconds since counter 0, as 12.5"),
+    for given, why in [
+        (recording(None), "no facts beside it, so times are seconds since counter 0, as 12.5"),
         (
             times(origins=UNKNOWN_SCALE),
             "the scale of its times is unknown, so times are seconds since counter 0, as 12.5",
@@ -126,7 +135,7 @@ def test_without_facts_that_know_the_day_a_time_needs_its_date() -> None:
         ],
     ]:
         with pytest.raises(Refused, match=f"^x.ch11: {why}$"):
-            dated(time_of("23:36:10"), None, [recording])
+            dated(time_of("23:36:10"), None, [given])
     judge("each is refused by its name", True)
 
 

@@ -3,7 +3,7 @@
 from pathlib import Path
 
 import pytest
-from bpfrec_host.__main__ import TOOLS as TOOL_MODULES
+from bpfrec_tools.__main__ import TOOLS as TOOL_MODULES
 from reading import SAMPLES
 from support import TOOLS, judge, outcome
 

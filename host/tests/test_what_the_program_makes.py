@@ -5,28 +5,24 @@ from __future__ import annotations
 import ast
 import importlib
 import struct
-import sys
 from collections.abc import Iterator
 from pathlib import Path
 
 import pytest
-from bpfrec_host.formats.limits import HEADER_LEN
+from bpfrec.formats.limits import HEADER_LEN
 from support import ROOT, judge
 
-WANTED: dict[str, str] = {}
 HOST = ROOT / "host"
-MODULES = sorted(it for name in ("bpfrec_host", "bpfrec") for it in (HOST / name).rglob("*.py"))
+# What knows what packets hold.
+READERS = {f"bpfrec.formats.{it}" for it in ("packet", "body", "records", "reader", "follow", "whole_file")}
+MODULES = sorted(it for name in ("bpfrec_tools", "bpfrec") for it in (HOST / name).rglob("*.py"))
 # What computes beside operators.
 COMPUTING = {"divmod", "sum", "round", "pow", "abs", "math", "nanoseconds_of", "seconds_of"}
-# What makes a packet's header, where it stands, and who takes it: recordings of several recorders become one, of which the
-# program makes the file.
-MAKER, ITS_MODULE, MAY_MAKE = "header_bytes", "bpfrec_host.formats.ch11.packet", ["bpfrec_host.joined.joining"]
 # What begins lines of a setup record's text, and who has such: its reader, and options, which refuse its names.
 OF_SETUP_RECORDS = ("R-1\\", "G\\")
 MAY_NAME_LINES = {
-    "bpfrec_host.formats.whole_file": "reads them",
-    "bpfrec_host.chapter11.options": "refuses them",
-    "bpfrec_host.publish.recording": "has the comment of a stream's attributes",
+    "bpfrec.formats.whole_file": "reads them",
+    "bpfrec_tools.chapter11.options": "refuses them, and has that of comments",
 }
 
 
@@ -55,7 +51,7 @@ def is_computed(node: ast.AST) -> bool:
     return isinstance(node, ast.UnaryOp) and not isinstance(node.op, ast.Not)
 
 
-@pytest.mark.parametrize("path", sorted((HOST / "bpfrec_host/chapter11").glob("*.py")), ids=lambda it: it.stem)
+@pytest.mark.parametrize("path", sorted((HOST / "bpfrec_tools/chapter11").glob("*.py")), ids=lambda it: it.stem)
 def test_setup_is_copied_and_nothing_in_it_is_computed(path: Path) -> None:
     """So a time of a whole file is that of the facts, which the program reads."""
     found = [node.lineno for node in ast.walk(tree_of(path)) if is_computed(node) and isinstance(node, ast.expr)]
@@ -75,10 +71,8 @@ def packed_headers(path: Path) -> list[int]:
 
 
 def test_no_tool_makes_a_packet_of_a_chapter_11_file() -> None:
-    takers = [name_of(path) for path in MODULES if (ITS_MODULE, MAKER) in imported(path)]
-    judge("none takes what makes headers", takers == MAY_MAKE, takers)
     makers = [name_of(path) for path in MODULES if packed_headers(path)]
-    judge("nor makes them itself", makers == [ITS_MODULE], makers)
+    judge("none makes headers", not makers, makers)
 
 
 def test_none_makes_the_text_of_a_setup_record() -> None:
@@ -92,20 +86,9 @@ def test_none_makes_the_text_of_a_setup_record() -> None:
     judge("its lines stand with those who read them", found <= set(MAY_NAME_LINES), found - set(MAY_NAME_LINES))
 
 
-def test_the_second_opinion_imports_nothing_but_itself() -> None:
-    """And nothing of the rest has its readers, but bpfrec check, which asks it."""
-    paths = [*(HOST / "second").glob("*.py"), HOST / "second/check_sums"]
-    names = {module.partition(".")[0] for path in paths for module, _ in imported(path)}
-    judge("the standard library", names <= {*sys.stdlib_module_names, "second"}, names)
-    askers = {name_of(path) for path in MODULES if any(it.startswith("second") for it, _ in imported(path))}
-    judge("who asks it", askers == {"bpfrec_host.check.command"}, askers)
-
-
 def test_what_is_published_is_looked_into_for_lengths_alone() -> None:
     """The datagrams' maker and the stream know nothing of what packets hold."""
     for name in ("stream", "datagrams", "sending"):
-        path = HOST / f"bpfrec_host/publish/{name}.py"
-        readers = [
-            it for it, _ in imported(path) if it.startswith(("bpfrec_host.formats.ch11", "bpfrec_host.formats.whole"))
-        ]
+        path = HOST / f"bpfrec_tools/publish/{name}.py"
+        readers = [it for it, _ in imported(path) if it in READERS or it.startswith("bpfrec.core")]
         judge(name, not readers, readers)

@@ -33,7 +33,6 @@ from whole_file_parts import (
     without,
 )
 
-WANTED: dict[str, str] = {}
 DAY = 86_400
 RECORD, SETUP, INDEX, TIME, FRAMES = 0x00, 0x01, 0x03, 0x11, 0x68
 TEN_MS = 100_000
@@ -303,7 +302,7 @@ RECORD_DAMAGES = {
         RECORD,
         -1,
     ),
-    "an end out of its turn": Damage(exchanged(-2, -3), "a packet ahead of it had to stand behind it", RECORD, -2),
+    "an end out of its turn": Damage(exchanged(-1, -2), "a packet ahead of it had to stand behind it", RECORD, -1),
 }
 CONTENTS = {**SETUP_DAMAGES, **TIME_DAMAGES, **FRAMES_DAMAGES, **RECORD_DAMAGES}
 # How many faults are named of those of which another one follows.
@@ -332,6 +331,15 @@ def test_damage_of_what_packets_hold_is_named_at_its_place(what: str) -> None:
     found = faults_of(changed)
     is_named = found[:1] and found[0].startswith(f"{place} {damage.fault}")
     judge(what, is_named and len(found) == FAULTS.get(what, 1), (place, found))
+
+
+def test_an_end_of_a_run_may_be_last_whose_channel_was_quiet_in_the_last_recording() -> None:
+    """It has the counts of the run, and the greatest counter of all, since it has none of its own."""
+    parts = [it for it in parts_of(sample()) if it.kind != INDEX]
+    last = rebuilt(exchanged(-2, -3)(parts))
+    judge("behind that of a greater channel", faults_of(last) == [], faults_of(last))
+    less = rebuilt([*parts[:-2], parts[-2]._replace(counter=parts[-2].counter - 1), parts[-1]])
+    judge("at the greatest counter alone", len(faults_of(less)) == 1, faults_of(less))
 
 
 def test_time_packets_behind_their_frames_are_named() -> None:

@@ -25,7 +25,6 @@ from whole_file_parts import (
     without,
 )
 
-WANTED: dict[str, str] = {}
 RECORD, SETUP, INDEX, TIME, FRAMES = 0x00, 0x01, 0x03, 0x11, 0x68
 
 

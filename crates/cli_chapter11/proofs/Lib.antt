@@ -1,3 +1,4 @@
 pub mod WrittenFiles
 pub mod SeenSame
 pub mod SetupStreamed
+pub mod JoinedRecordings

@@ -1,7 +1,9 @@
 //! The command.
 
-ghost use Rattle.std.specs.Prelude.{OnOk};
+ghost use Rattle.std.specs.Prelude.{◌≡◌, if◌then◌else◌, OnOk};
 ghost use Rattle.std.specs.Io.KnownBytes.{Appends};
+ghost use Rattle.cli_streams.specs.declared.ending.CommandEnding.TheVariants.{Joined, Whole};
+ghost use Rattle.cli_chapter11.specs.declared.writing.WriteEnd.TheVariants.{Refused};
 ghost use Rattle.cli_chapter11.specs.CountsLines.{counts_line};
 
 use crate::files::{listing_of, open_recording, setup_in};
@@ -11,7 +13,9 @@ use crate::writing::{WriteEnd, judged_then_written};
 use ch11_file::FileCounts;
 use cli_streams::{CommandEnding, Inputs, LockFile, OutputFile, buffered_output, print_line};
 use rec_pieces::PlacedRead;
+use rec_whole::WholeRefusal;
 use std::alloc::Global;
+use std::fs;
 use std::io::{BufWriter, Write};
 use std::rt::Files;
 
@@ -34,7 +38,7 @@ where
     let mut inputs = Inputs::new(alloc);
     inputs.add_streams(rt)?;
     inputs.add(&file)?;
-    let settings = setup_in(rt, &mut inputs, setup, out, 1)?;
+    let settings = setup_in(rt, &mut inputs, setup, fs::open(rt, setup), out, 1)?;
     let listing = listing_of(alloc, recording, &file)?;
     let mut whole = WholeFile {
         file: &file,
@@ -49,19 +53,25 @@ where
     };
     let (counts, written) = match judged_then_written(alloc, &mut whole, &mut named) {
         Ok(written) => written,
-        Err(end) => return Err(ending_of(end, recording, out)),
+        Err(end) => return Err(ending_of(end, recording, out, settings.has_tables)),
     };
     written.get_ref().keep(out)?;
     print_counts(alloc, output, counts)
 }
 
-/// How the command ends where OUT isn't written.
+/// How the command ends where OUT isn't written. A refusal has the place of the recording too, where SETUP has a
+/// table for it.
 fn ending_of<'a>(
     end: WriteEnd<CommandEnding<'a>>,
     recording: &'a str,
     out: &'a str,
-) -> CommandEnding<'a> {
+    has_tables: bool,
+) -> CommandEnding<'a>
+    ensures { (refusal : WholeRefusal) → end.entry ≡ Refused refusal
+        → result ≡ (if has_tables then Joined refusal 0 else Whole refusal) }
+{
     match end {
+        WriteEnd::Refused(refusal) if has_tables => CommandEnding::Whole(refusal).with_place(0),
         WriteEnd::Refused(refusal) => CommandEnding::Whole(refusal),
         WriteEnd::Recording => CommandEnding::File(recording),
         WriteEnd::Uncreated(ending) => ending,
@@ -72,10 +82,11 @@ fn ending_of<'a>(
 
 /// The OUT that the words name.
 #[derive(Drop)]
-struct NamedOut<'a, 'i, R> {
-    rt: &'i R,
-    inputs: &'i Inputs,
-    out: &'a str,
+pub(crate) struct NamedOut<'a, 'i, R> {
+    pub rt: &'i R,
+    /// The files that it must not be.
+    pub inputs: &'i Inputs,
+    pub out: &'a str,
 }
 
 impl<'a, 'i, R: AllocGlobal + Files> Uncreated for NamedOut<'a, 'i, R>
@@ -96,7 +107,7 @@ where
 }
 
 /// Prints how many packets of each kind a file has, and how many bytes.
-fn print_counts<O: Write>(
+pub(crate) fn print_counts<O: Write>(
     alloc: Global,
     output: &mut O,
     counts: FileCounts,

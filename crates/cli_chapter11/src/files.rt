@@ -43,17 +43,18 @@ pub(crate) fn open_recording<'a, R: AllocGlobal + Files>(
     Ok(file)
 }
 
-/// What SETUP says of so many recordings. An OUT that is one of the inputs, SETUP too, is refused before it is read.
+/// What the SETUP that was opened says of so many recordings. An OUT that is one of the inputs, SETUP too, is refused
+/// before it is read.
 pub(crate) fn setup_in<'a, R: AllocGlobal + Files>(
     rt: &R,
     inputs: &mut Inputs,
     setup: &'a str,
+    opened: io::Result<R::File>,
     out: &'a str,
     recordings: usize,
 ) -> Result<FileSettings, CommandEnding<'a>>
     ensures { IfOk result (λ settings. length settings.recordings.items ≡ recordings) }
 {
-    let opened = fs::open(rt, setup);
     if let Ok(file) = &opened {
         inputs.add(file)?;
     }
@@ -61,7 +62,7 @@ pub(crate) fn setup_in<'a, R: AllocGlobal + Files>(
     settings_in(rt.alloc(), setup, opened, recordings)
 }
 
-/// What the SETUP that was opened says of so many recordings.
+/// What SETUP says of so many recordings.
 pub(crate) fn settings_in<'a, F: Read + Drop>(
     alloc: Global,
     setup: &'a str,

@@ -15,7 +15,7 @@ use crate::summed::{ByteSum, Summed};
 use ch11_clock::Clock;
 use ch11_index::MOST_NAMED;
 use ch11_setup::{Attribute, SetupChannel};
-use rec_pieces::{PieceListing, PlacedRead};
+use rec_pieces::{FilePackets, PieceListing, PlacedRead, packets_are_read_at_their_places};
 use rec_whole::{FileNames, WholeEnd, write_whole_file};
 use rec_words::{GeneralSettings, RecordingSettings};
 use std::alloc::Global;
@@ -78,6 +78,7 @@ fn write_once<F: PlacedRead, W: Write + Drop>(
         → FailsBySetup whole.now.general.now whole.now.recording.now packets
         (W.contents output) (W.contents last) end)) }
 {
+    packets_are_read_at_their_places();
     let general = whole.general;
     let recording = whole.recording;
     let channels = channels_of(alloc, recording.channels.as_slice())?;
@@ -88,9 +89,10 @@ fn write_once<F: PlacedRead, W: Write + Drop>(
         out: output,
         sum: ByteSum::NONE,
     };
+    let packets = FilePackets::new(whole.file);
     let written = write_whole_file(
         alloc,
-        whole.file,
+        &packets,
         whole.listing,
         &names,
         &clock,

@@ -1,3 +1,4 @@
 pub mod Digits
 pub mod Endings
 pub mod Listed
+pub mod OwnPlaces

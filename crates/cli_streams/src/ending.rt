@@ -3,10 +3,13 @@
 ghost use Rattle.std.specs.Prelude.{◌≡◌, ◌<◌, ◌⊎◌};
 ghost use Rattle.cli_streams.specs.declared.ending.CommandEnding.TheVariants.{File, Memory};
 ghost use Rattle.cli_streams.specs.Endings.{reading_ending};
+ghost use Rattle.cli_streams.specs.OwnPlaces.{IsJoinedRefusal, placed_ending};
 
 use crate::listed::ListedFault;
 use crate::output::print_line;
+use crate::own_place::{own_place, refused_as, refused_at};
 use crate::recording_fault::RecordingFault;
+use crate::run_refusal::RunRefusal;
 use crate::view::ViewFault;
 use bpf_asm::AsmFault;
 use bpf_dis::DisFault;
@@ -68,6 +71,15 @@ pub enum CommandEnding<'a> {
     /// A recording can't be a whole file.
     #[error("{0}\n")]
     Whole(#[from] WholeRefusal),
+    /// Several recordings can't be one: why, of the recording at this place.
+    #[error("{refusal} {place}\n")]
+    Joined { refusal: WholeRefusal, place: usize },
+    /// The recording at this place of several can't be in their file, by those of its run.
+    #[error("{refusal} {place}\n")]
+    InRun { refusal: RunRefusal, place: usize },
+    /// The recording at this place of several isn't read to its end.
+    #[error("{end} {place}\n")]
+    JoinedReading { end: ReadEnd, place: usize },
     /// A recording goes out no further as a stream, of which standard output has the packets ahead.
     #[error("{0}\n")]
     Stream(#[from] StreamRefusal),
@@ -132,6 +144,36 @@ impl<'a> CommandEnding<'a> {
         }
     }
 
+    /// What a refusal of several recordings comes to, with the place of the packet in the joined recording, in which
+    /// each of them ends where it is said.
+    pub fn of_joined(refusal: WholeRefusal, ends: &[u64]) -> CommandEnding<'a>
+        ensures { IsJoinedRefusal ends.now refusal result }
+    {
+        let Some(at) = refused_at(refusal) else {
+            return CommandEnding::Joined { refusal, place: 0 };
+        };
+        match own_place(ends, at) {
+            Some((place, own)) => CommandEnding::Joined {
+                refusal: refused_as(refusal, own),
+                place,
+            },
+            // no packet stands there
+            None => CommandEnding::Joined { refusal, place: 0 },
+        }
+    }
+
+    /// What it is of the recording at this place of several: its refusal, or the fault of reading it, has the place
+    /// behind it.
+    pub fn with_place(self, place: usize) -> CommandEnding<'a>
+        ensures { result ≡ placed_ending place self.entry }
+    {
+        match self {
+            CommandEnding::Whole(refusal) => CommandEnding::Joined { refusal, place },
+            CommandEnding::Reading(end) => CommandEnding::JoinedReading { end, place },
+            ending => ending,
+        }
+    }
+
     /// Prints the text and gives the exit status. A refusal of the verifier, of the audit or of a whole
     /// file is an answer and goes to `output` as one write; all else goes to `errors`, where a failed
     /// write is passed over.
@@ -140,7 +182,11 @@ impl<'a> CommandEnding<'a> {
     {
         if !matches!(
             self,
-            CommandEnding::Refused(_) | CommandEnding::Audit(_) | CommandEnding::Whole(_)
+            CommandEnding::Refused(_)
+                | CommandEnding::Audit(_)
+                | CommandEnding::Whole(_)
+                | CommandEnding::Joined { .. }
+                | CommandEnding::InRun { .. }
         ) {
             return self.print_fault(alloc, errors);
         }
@@ -185,6 +231,8 @@ impl<'a> CommandEnding<'a> {
             | CommandEnding::Reading(_) => REFUSED,
             CommandEnding::Listing(_) | CommandEnding::Refused(_) | CommandEnding::View(_) =>
                 REFUSED,
+            CommandEnding::Joined { .. } | CommandEnding::JoinedReading { .. } => REFUSED,
+            CommandEnding::InRun { .. } => REFUSED,
             CommandEnding::Recording(_) | CommandEnding::Stream(_) | CommandEnding::Told => REFUSED,
             CommandEnding::Audit(_) | CommandEnding::Script(_) | CommandEnding::Whole(_) => REFUSED,
         }

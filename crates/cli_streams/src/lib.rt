@@ -11,7 +11,9 @@ mod inputs;
 mod listed;
 mod output;
 mod output_file;
+mod own_place;
 mod recording_fault;
+mod run_refusal;
 mod view;
 
 pub use channel_word::channel_in;
@@ -24,4 +26,5 @@ pub use listed::{ListedFault, listed_program};
 pub use output::{finish, print_line, print_text};
 pub use output_file::{OUTPUT_PIECE, OutputFile, buffered_output, write_held};
 pub use recording_fault::RecordingFault;
+pub use run_refusal::RunRefusal;
 pub use view::{ViewFault, view_of};

@@ -1,5 +1,6 @@
 -- What a command does with standard input and standard output, where `-` names one of them.
-use Rattle.std.specs.Prelude.{ℕ, ◌≡◌, ◌≢◌, ◌^◌, ◌<◌, List, length, codes, Option, Result, OnOk, IfSome, [], ◌∷◌, true}
+use Rattle.std.specs.Prelude.{ℕ, ◌≡◌, ◌≢◌, ◌^◌, ◌<◌, ◌≤◌, ◌==◌, Bool, true, false, List, [], ◌∷◌, ◌++◌, length, codes, Option, Result, OnOk, IfSome}
+use Rattle.std.specs.List.{list_any}
 use Rattle.clap.specs.Words.{Text, Row, subcommand_of, takes}
 use Rattle.cli_streams.specs.declared.ending.CommandEnding.{CommandEnding}
 use Rattle.cli_reading.specs.Lines.{PrintsExtracted, PrintsUpgraded}
@@ -13,6 +14,22 @@ use Rattle.rec_words.specs.Commands.{AsksFor, bpfrec_app}
 -- the words are `chapter11 --stream` and the name of a file, which `clap` isn't asked for
 abbrev pub AsksForStream : (words : List (List ℕ)) → Type 0
 AsksForStream words = (setup : List ℕ) × (words ≡ codes "chapter11" ∷ codes "--stream" ∷ setup ∷ [])
+
+-- an option: it begins with `-`, which alone is the name of a stream
+abbrev pub is_option : (word : List ℕ) → Bool
+is_option [] = false
+is_option (only ∷ []) = false
+is_option (first ∷ second ∷ rest) = first == 45
+
+-- the words are `chapter11`, the names of two recordings or more, of SETUP and of OUT, and none is an option
+pub record IsSeveral (words : List (List ℕ)) (recordings : List (List ℕ)) (setup out : List ℕ) : Type 0 where
+  pub words_are : words ≡ codes "chapter11" ∷ (recordings ++ setup ∷ out ∷ [])
+  pub two : 2 ≤ length recordings
+  pub no_option : list_any is_option (recordings ++ setup ∷ out ∷ []) ≡ false
+
+-- the words are of this form, which `clap` isn't asked for either
+abbrev pub AsksForSeveral : (words : List (List ℕ)) → Type 0
+AsksForSeveral words = (recordings : List (List ℕ)) × (setup : List ℕ) × (out : List ℕ) × IsSeveral words recordings setup out
 
 -- the line of a recording that standard input has left is printed at `Ok`, where that is known
 abbrev pub PrintsOf : {T E : Type 0} → Result T E → (left : Option (List ℕ)) → (List ℕ → Type 0) → Type 0
@@ -51,5 +68,5 @@ pub record AnswersAsked {T : Type 0} (met : Option (Text × List Row)) (left bef
 abbrev pub AnswersWords : {T : Type 0} → (words : List (List ℕ)) → (left before after : Option (List ℕ))
     → Result T CommandEnding → Type 0
 AnswersWords words left before after result =
-    ¬ AsksForStream words → takes bpfrec_app words ≡ true
+    ¬ AsksForStream words → ¬ AsksForSeveral words → takes bpfrec_app words ≡ true
     → AnswersAsked (subcommand_of bpfrec_app words) left before after result

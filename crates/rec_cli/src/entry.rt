@@ -4,6 +4,7 @@ ghost use Rattle.std.specs.Prelude.{◌≡◌, ◌<◌, IfSome, OnOk, Ok, length
 ghost use Rattle.cli_filters.specs.Lines.{AnswersLines};
 ghost use Rattle.rec_cli.specs.Answered.{AsksForStream, AnswersCommand, AnswersWords};
 
+use crate::several::{join, several_in};
 use cli_chapter11::{stream_chapter11, write_chapter11};
 use cli_filters::{answer_lines, assemble_file, disassemble_file, run_file, verify_file};
 use cli_reading::{
@@ -42,6 +43,9 @@ where
 {
     if let Some(setup) = stream_setup(words) {
         return stream(rt, setup, input, output, errors);
+    }
+    if let Some(asked) = several_in(words) {
+        return join(rt, &asked, output, errors);
     }
     let shared = Mutex::new(errors);
     let answer = if words.is_empty() {

@@ -2,6 +2,7 @@
 #![tactic(auto)]
 
 mod entry;
+mod several;
 
 pub use cli_streams::{LockFile, ViewFault, view_of};
 pub use entry::{program, words_unread};

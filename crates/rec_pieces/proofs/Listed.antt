@@ -26,7 +26,7 @@ lesser_assoc (Some a) None c = refl
 lesser_assoc (Some a) (Some b) None = refl
 lesser_assoc (Some a) (Some b) (Some c) = ap Some (min_assoc a b c)
 
-lesser_none : (a : Option ℕ) → lesser a None ≡ a
+pub lesser_none : (a : Option ℕ) → lesser a None ≡ a
 lesser_none None = refl
 lesser_none (Some a) = refl
 

@@ -20,56 +20,64 @@ use Rattle.rec_reader.specs.Reading.{Reads}
 use Rattle.rec_reader.specs.ChannelFrames.{channel_frames, packet_frames, frames_held}
 use Rattle.rec_pieces.specs.declared.entry.PieceKind.{PieceKind}
 use Rattle.rec_pieces.specs.declared.entry.PieceKind.TheVariants.{Record, Uncounted}
-use Rattle.rec_pieces.specs.Entries.{named_by, pieces_of, pieces_at, packet_names, pieces_named, pieces_of_packet, pieces_of_channel, header_from, data_from}
+use Rattle.rec_pieces.specs.Entries.{named_by, pieces_of, pieces_at, packet_names, pieces_named, pieces_of_packet, pieces_of_channel}
+use Rattle.rec_pieces.specs.Entries.{AreThere, IsThere, PacketPlaces, places_of}
 use Rattle.rec_pieces.specs.Listings.{entry_named, entry_of_packet, channel_entries}
 use Rattle.rec_pieces.specs.Sources.{pieces_to_come}
-use Rattle.rec_pieces.proofs.PlacedPackets.{IsRead, first_is_read}
+use Rattle.rec_pieces.proofs.PlacedPackets.{first_is_read}
 
 -- ---- one packet
 
 same_pieces : (kind : PieceKind) (place c d : ℕ) (xs ys : List ℕ) → c ≡ d → xs ≡ ys → pieces_of kind place c xs ≡ pieces_of kind place d ys
 same_pieces kind place c d xs ys ec ex = ap (λ n. pieces_of kind place n xs) ec ∙ ap (pieces_of kind place d) ex
 
-named_there : (channel at : ℕ) (bytes : List ℕ) (named : Option (ℕ × PieceKind)) (header : HeaderData) (held : List ℕ)
-    → header_from bytes at ≡ header → data_from bytes at ≡ held
-    → flat_map (pieces_at bytes) (entry_named channel at named) ≡ pieces_named channel named at header.counter held
-named_there channel at bytes None header held h d = refl
-named_there channel at bytes (Some (named, kind)) header held h d = here (named == channel)
+named_there : (channel at : ℕ) (places : PacketPlaces) (named : Option (ℕ × PieceKind)) (header : HeaderData) (held : List ℕ)
+    → (places at).header ≡ header → (places at).held ≡ held
+    → flat_map (pieces_at places) (entry_named channel at named) ≡ pieces_named channel named at header.counter held
+named_there channel at places None header held h d = refl
+named_there channel at places (Some (named, kind)) header held h d = here (named == channel)
   where
-    here : (is : Bool) → flat_map (pieces_at bytes) (if is then record { at = at; kind = kind } ∷ [] else [])
+    here : (is : Bool) → flat_map (pieces_at places) (if is then record { at = at; kind = kind } ∷ [] else [])
         ≡ (if is then pieces_of kind at header.counter held else [])
     here true = append-nil _ ∙ same_pieces kind at _ _ _ _ (ap (λ (x : HeaderData). x.counter) h) d
     here false = refl
 
-packet_there : (channel : ℕ) (bytes : List ℕ) (packet : PacketData) → IsRead packet (drop packet.at bytes)
-    → flat_map (pieces_at bytes) (entry_of_packet channel packet) ≡ pieces_of_packet channel packet
-packet_there channel bytes packet read =
-    named_there channel packet.at bytes (packet_names packet) packet.header (data_in packet.header packet.body) read.header read.held
+packet_there : (channel : ℕ) (places : PacketPlaces) (packet : PacketData) → IsThere (places packet.at) packet
+    → flat_map (pieces_at places) (entry_of_packet channel packet) ≡ pieces_of_packet channel packet
+packet_there channel places packet read =
+    named_there channel packet.at places (packet_names packet) packet.header (data_in packet.header packet.body) read.header read.held
 
 -- ---- all packets
+
+pub placed_pieces : (places : PacketPlaces) (packets : List PacketData) → AreThere places packets → (channel : ℕ)
+    → pieces_to_come (channel_entries channel packets) 0 places ≡ pieces_of_channel channel packets
+placed_pieces places [] read channel = refl
+placed_pieces places (p ∷ ps) read channel =
+    flat_map-append (pieces_at places) (entry_of_packet channel p) (channel_entries channel ps)
+    ∙ ap (λ l. l ++ flat_map (pieces_at places) (channel_entries channel ps)) (packet_there channel places p read.0)
+    ∙ ap (λ l. pieces_of_packet channel p ++ l) (placed_pieces places ps read.1 channel)
+
+-- ---- packets in bytes
 
 behind_first : (at : ℕ) (packet : PacketData) (bytes more : List ℕ) → PacketStandsFirst at packet bytes more
     → drop packet.header.packet_len bytes ≡ more
 behind_first at packet bytes more first =
     ap (drop packet.header.packet_len) first.whole ∙ drop_at first.spelling more packet.header.packet_len first.spelled.long
 
-all_there : (channel at : ℕ) (bytes here rest : List ℕ) (packets : List PacketData) → here ≡ drop at bytes → BeginsPackets at packets here rest
-    → flat_map (pieces_at bytes) (channel_entries channel packets) ≡ pieces_of_channel channel packets
-all_there channel at bytes here rest [] is begins = refl
-all_there channel at bytes here rest (p ∷ ps) is begins =
+all_there : (at : ℕ) (bytes here rest : List ℕ) (packets : List PacketData) → here ≡ drop at bytes → BeginsPackets at packets here rest
+    → AreThere (places_of bytes) packets
+all_there at bytes here rest [] is begins = tt
+all_there at bytes here rest (p ∷ ps) is begins =
     let first = begins.1 in
-    let read : IsRead p (drop p.at bytes) = subst (λ n. IsRead p (drop n bytes)) (sym first.place)
-    (subst (IsRead p) is (first_is_read at p here begins.0 first)) in
     let next : begins.0 ≡ drop (at + p.header.packet_len) bytes =
     sym (behind_first at p here begins.0 first) ∙ ap (drop p.header.packet_len) is ∙ drop-drop p.header.packet_len at bytes
-    ∙ ap (λ n. drop n bytes) (omega arith) in
-    flat_map-append (pieces_at bytes) (entry_of_packet channel p) (channel_entries channel ps)
-    ∙ ap (λ l. l ++ flat_map (pieces_at bytes) (channel_entries channel ps)) (packet_there channel bytes p read)
-    ∙ ap (λ l. pieces_of_packet channel p ++ l) (all_there channel (at + p.header.packet_len) bytes begins.0 rest ps next begins.2)
+    ∙ ap (λ n. drop n bytes) (omega arith) in (
+      subst (λ n. IsThere (places_of bytes n) p) (sym first.place) (subst (λ l. IsThere (places_of l 0) p) is (first_is_read at p here begins.0 first)),
+      all_there (at + p.header.packet_len) bytes begins.0 rest ps next begins.2,
+    )
 
-pub placed_pieces : (bytes : List ℕ) (packets : List PacketData) → Reads bytes packets None → (channel : ℕ)
-    → pieces_to_come (channel_entries channel packets) 0 bytes ≡ pieces_of_channel channel packets
-placed_pieces bytes packets reads channel = all_there channel 0 bytes bytes reads.rest packets refl reads.held
+pub read_at_places : (bytes : List ℕ) (packets : List PacketData) → Reads bytes packets None → AreThere (places_of bytes) packets
+read_at_places bytes packets reads = all_there 0 bytes bytes reads.rest packets refl reads.held
 
 -- ---- the frames of a channel
 

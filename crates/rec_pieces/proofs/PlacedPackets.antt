@@ -2,6 +2,7 @@
 use Rattle.std.proofs.Common.{ℕ, ◌≡◌, ◌≤◌, List, ◌++◌, length, take, drop, Option, None, Some}
 use Rattle.std.proofs.Common.{refl, ◌∙◌, ap, subst, arith, append_assoc, length-append}
 use Rattle.std.specs.Prelude.{IfSome}
+use Rattle.std.specs.Option.{option_map}
 use Rattle.std.proofs.lemmas.List.{take-append-le}
 use Rattle.ch11_packet.specs.declared.header.TheConstants.{HEADER_LEN}
 use Rattle.ch11_packet.specs.Header.{HeaderData, header_bytes, header_at}
@@ -10,7 +11,7 @@ use Rattle.ch11_packet.proofs.Headers.{header_at-header_bytes}
 use Rattle.rec_reader.specs.Packets.{PacketData, PacketStandsFirst}
 use Rattle.rec_reader.specs.Readers.{TakesFirst}
 use Rattle.rec_pieces.specs.Placed.{known_from}
-use Rattle.rec_pieces.specs.Entries.{header_from, data_from}
+use Rattle.rec_pieces.specs.Entries.{IsThere, places_of}
 
 -- ---- the packet at a place
 
@@ -26,10 +27,9 @@ header_len : (header : HeaderData) → length (header_bytes header) ≡ HEADER_L
 unfolding header_bytes
 header_len header = refl
 
--- the header and the data of the packet that stands first
-pub record IsRead (packet : PacketData) (rest : List ℕ) : Type 0 where
-  pub header : header_at rest ≡ packet.header
-  pub held : data_in (header_at rest) (drop HEADER_LEN rest) ≡ data_in packet.header packet.body
+-- the packet stands first
+abbrev pub IsRead : PacketData → (rest : List ℕ) → Type 0
+IsRead packet rest = IsThere (places_of rest 0) packet
 
 pub first_is_read : (at : ℕ) (packet : PacketData) (rest more : List ℕ) → PacketStandsFirst at packet rest more → IsRead packet rest
 first_is_read at packet rest more first =
@@ -57,14 +57,13 @@ taken_there bytes at place left new packet is taken =
 
 read_known : (held left new : Option (List ℕ)) (at place : ℕ) (packet : PacketData) → left ≡ known_from held at
     → IfSome left (λ known. TakesFirst place known (Some packet) new)
-    → IfSome held (λ bytes. (header_from bytes at ≡ packet.header) × (data_from bytes at ≡ data_in packet.header packet.body))
+    → IfSome (option_map places_of held) (λ places. IsThere (places at) packet)
 read_known None left new at place packet is taken = tt
-read_known (Some bytes) left new at place packet is taken =
-    let read = taken_there bytes at place left new packet is taken in (read.header, read.held)
+read_known (Some bytes) left new at place packet is taken = taken_there bytes at place left new packet is taken
 
 pub read_there : (held left new : Option (List ℕ)) (at place : ℕ) (packet : PacketData) (took : Option PacketData) → took ≡ Some packet
     → left ≡ known_from held at → IfSome left (λ known. TakesFirst place known took new)
-    → IfSome held (λ bytes. (header_from bytes at ≡ packet.header) × (data_from bytes at ≡ data_in packet.header packet.body))
+    → IfSome (option_map places_of held) (λ places. IsThere (places at) packet)
 read_there held left new at place packet took one is taken =
     read_known held left new at place packet is (subst (λ t. IfSome left (λ known. TakesFirst place known t new)) one taken)
 

@@ -1,6 +1,6 @@
 -- The pieces of a packet, by the packet and by its place in the recording's bytes.
-use Rattle.std.specs.Prelude.{ℕ, ◌==◌, if◌then◌else◌, List, [], ◌∷◌, drop, Option, None, Some}
-use Rattle.std.specs.List.{flat_map}
+use Rattle.std.specs.Prelude.{ℕ, ◌≡◌, ◌==◌, if◌then◌else◌, List, [], ◌∷◌, drop, Option, None, Some}
+use Rattle.std.specs.List.{AllByRecursion, flat_map}
 use Rattle.ch11_packet.specs.declared.header.TheConstants.{HEADER_LEN}
 use Rattle.ch11_packet.specs.declared.class.What.{What}
 use Rattle.ch11_packet.specs.declared.class.What.TheVariants.{Frames as HoldsFrames, Program, End, Other}
@@ -59,7 +59,27 @@ header_from bytes at = header_at (drop at bytes)
 abbrev pub data_from : List ℕ → (at : ℕ) → List ℕ
 data_from bytes at = data_in (header_from bytes at) (drop HEADER_LEN (drop at bytes))
 
--- the pieces of the packet that an entry names in these bytes
-abbrev pub pieces_at : List ℕ → PieceEntry → List FilePiece
-pieces_at bytes entry =
-    pieces_of entry.kind entry.at (header_from bytes entry.at).counter (data_from bytes entry.at)
+-- what is read at a place: a packet's header and its data
+pub record PacketThere : Type 0 where
+  pub header : HeaderData
+  pub held : List ℕ
+
+-- what is read at each place, and that of these bytes
+abbrev pub PacketPlaces : Type 0
+PacketPlaces = (at : ℕ) → PacketThere
+
+abbrev pub places_of : List ℕ → PacketPlaces
+places_of bytes at = record { header = header_from bytes at; held = data_from bytes at }
+
+-- the packet is read there, and each of these packets is read at its place
+pub record IsThere (there : PacketThere) (packet : PacketData) : Type 0 where
+  pub header : there.header ≡ packet.header
+  pub held : there.held ≡ data_in packet.header packet.body
+
+abbrev pub AreThere : PacketPlaces → List PacketData → Type 0
+AreThere places packets = AllByRecursion (λ (p : PacketData). IsThere (places p.at) p) packets
+
+-- the pieces of the packet that an entry names
+abbrev pub pieces_at : PacketPlaces → PieceEntry → List FilePiece
+pieces_at places entry =
+    pieces_of entry.kind entry.at (places entry.at).header.counter (places entry.at).held

@@ -2,6 +2,7 @@ pub mod Placed
 pub mod BodiesSoFar
 pub mod Parts
 pub mod Entries
+pub mod ToldPackets
 pub mod Hands
 pub mod Sources
 pub mod Listings

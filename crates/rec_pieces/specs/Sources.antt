@@ -8,7 +8,7 @@ use Rattle.ch11_merge.specs.Merging.FilePiece.{OfRecord}
 use Rattle.rec_pieces.specs.declared.entry.PieceEntry.{PieceEntry}
 use Rattle.rec_pieces.specs.declared.hand.InHand.{InHand}
 use Rattle.rec_pieces.specs.declared.hand.InHand.TheVariants.{Frames, Record}
-use Rattle.rec_pieces.specs.Entries.{pieces_at}
+use Rattle.rec_pieces.specs.Entries.{PacketPlaces, pieces_at}
 
 -- ---- in hand
 
@@ -22,21 +22,21 @@ pieces_held (Some hand) = hand_pieces hand
 
 -- ---- still to be read
 
--- the pieces of the packets that entries name in these bytes, from one on
-abbrev pub pieces_to_come : List PieceEntry → (next : ℕ) → List ℕ → List FilePiece
-pieces_to_come entries next bytes = flat_map (pieces_at bytes) (drop next entries)
+-- the pieces of the packets that entries name, from one on
+abbrev pub pieces_to_come : List PieceEntry → (next : ℕ) → PacketPlaces → List FilePiece
+pieces_to_come entries next places = flat_map (pieces_at places) (drop next entries)
 
 -- ---- a source
 
--- its pieces, if its file says its bytes, and where it stands if not
+-- its pieces, if its packets are known, and where it stands if not
 pub record SourceState : Type 0 where
   pub left : Option (List FilePiece)
   pub head : Head
 
-abbrev pub source_state : (held : Option (List ℕ)) → List PieceEntry → (next : ℕ) → Option InHand
+abbrev pub source_state : (known : Option PacketPlaces) → List PieceEntry → (next : ℕ) → Option InHand
     → SourceState
-source_state held entries next hand = record {
-  left = option_map (λ bytes. pieces_held hand ++ pieces_to_come entries next bytes) held;
+source_state known entries next hand = record {
+  left = option_map (λ places. pieces_held hand ++ pieces_to_come entries next places) known;
   head = head_of (pieces_held hand);
 }
 

@@ -7,7 +7,7 @@ ghost use Rattle.rec_pieces.specs.Sources.{hand_pieces, pieces_held, pieces_to_c
 
 use crate::entry::PieceEntry;
 use crate::hand::InHand;
-use crate::placed::PlacedRead;
+use crate::packets::PacketsAt;
 use crate::upcoming::next_in_hand;
 use ch11_file::OwnedPiece;
 use ch11_merge::{Head, PieceFault, PieceSource};
@@ -16,26 +16,26 @@ use std::marker::Model;
 
 /// The pieces of a channel. It holds one packet of the recording, and the places of the others.
 #[derive(Debug, Drop)]
-pub struct ChannelPieces<'f, F: PlacedRead> {
+pub struct ChannelPieces<'f, P: PacketsAt> {
     alloc: Global,
-    file: &'f F,
+    packets: &'f P,
     entries: &'f [PieceEntry],
     next: usize,
     hand: Option<InHand>,
 }
 
-impl<'f, F: PlacedRead> Model for ChannelPieces<'f, F> {
+impl<'f, P: PacketsAt> Model for ChannelPieces<'f, P> {
     ghost use Rattle.std.specs.Prelude.{◌≡◌, ◌≤◌, [], length};
     ghost use Rattle.rec_pieces.specs.Sources.{SourceState, source_state, pieces_held};
 
     ghost Value = { SourceState };
 
-    ghost view = { λ c. source_state (F.held c.file.now) c.entries.now c.next c.hand };
+    ghost view = { λ c. source_state (P.there c.packets.now) c.entries.now c.next c.hand };
 
     ghost invariant = { λ c. pieces_held c.hand ≡ [] → length c.entries.now ≤ c.next };
 }
 
-impl<'f, F: PlacedRead> ChannelPieces<'f, F> {
+impl<'f, P: PacketsAt> ChannelPieces<'f, P> {
     ghost use Rattle.std.specs.Prelude.{◌≡◌, Some, IfOk, IfSome};
     ghost use Rattle.rec_pieces.specs.Sources.{pieces_to_come};
 
@@ -43,17 +43,17 @@ impl<'f, F: PlacedRead> ChannelPieces<'f, F> {
     /// read.
     pub fn new(
         alloc: Global,
-        file: &'f F,
+        packets: &'f P,
         entries: &'f [PieceEntry],
-    ) -> Result<ChannelPieces<'f, F>, PieceFault>
-        ensures { IfOk result (λ pieces. IfSome (F.held file.entry.now) (λ bytes.
-            pieces.left ≡ Some (pieces_to_come entries.entry.now 0 bytes))) }
+    ) -> Result<ChannelPieces<'f, P>, PieceFault>
+        ensures { IfOk result (λ pieces. IfSome (P.there packets.entry.now) (λ places.
+            pieces.left ≡ Some (pieces_to_come entries.entry.now 0 places))) }
     {
         let mut next = 0;
-        let hand = next_in_hand(alloc, file, entries, &mut next)?;
+        let hand = next_in_hand(alloc, packets, entries, &mut next)?;
         Ok(ChannelPieces {
             alloc,
-            file,
+            packets,
             entries,
             next,
             hand,
@@ -61,7 +61,7 @@ impl<'f, F: PlacedRead> ChannelPieces<'f, F> {
     }
 }
 
-impl<'f, F: PlacedRead> PieceSource for ChannelPieces<'f, F> {
+impl<'f, P: PacketsAt> PieceSource for ChannelPieces<'f, P> {
     ghost use Rattle.ch11_file.specs.OwnedPieces.{owned_data};
     ghost use Rattle.rec_pieces.specs.Sources.{stands_by, stands_first};
 
@@ -93,7 +93,7 @@ impl<'f, F: PlacedRead> PieceSource for ChannelPieces<'f, F> {
         };
         match take_from(
             self.alloc,
-            self.file,
+            self.packets,
             self.entries,
             &mut self.next,
             hand,
@@ -121,9 +121,9 @@ fn put(slot: &mut Option<InHand>, hand: Option<InHand>)
 }
 
 /// Takes the next piece of a packet in hand, and gives what is in hand behind it.
-fn take_from<F: PlacedRead>(
+fn take_from<P: PacketsAt>(
     alloc: Global,
-    file: &F,
+    packets: &P,
     entries: &[PieceEntry],
     next: &mut usize,
     hand: InHand,
@@ -131,9 +131,9 @@ fn take_from<F: PlacedRead>(
 ) -> Result<(OwnedPiece, Option<InHand>), PieceFault>
     requires some { hand_pieces hand ≢ [] }
     requires early { is_due tick (head_of (hand_pieces hand)) ≡ false }
-    ensures taken { IfOk result (λ taken. IfSome (F.held file.now) (λ bytes. TakesPart tick
-        (hand_pieces hand ++ pieces_to_come entries.now next.old bytes) (owned_data taken.0)
-        (pieces_held taken.1 ++ pieces_to_come entries.now next.new bytes))) }
+    ensures taken { IfOk result (λ taken. IfSome (P.there packets.now) (λ places. TakesPart tick
+        (hand_pieces hand ++ pieces_to_come entries.now next.old places) (owned_data taken.0)
+        (pieces_held taken.1 ++ pieces_to_come entries.now next.new places))) }
     ensures fetched { IfOk result (λ taken. pieces_held taken.1 ≡ []
         → length entries.now ≤ next.new) }
 {
@@ -143,11 +143,11 @@ fn take_from<F: PlacedRead>(
             if !frames.is_over() {
                 return Ok((piece, Some(InHand::Frames(frames))));
             }
-            let hand = next_in_hand(alloc, file, entries, next)?;
+            let hand = next_in_hand(alloc, packets, entries, next)?;
             Ok((piece, hand))
         }
         InHand::Record { place, body } => {
-            let hand = next_in_hand(alloc, file, entries, next)?;
+            let hand = next_in_hand(alloc, packets, entries, next)?;
             Ok((OwnedPiece::Record { place, body }, hand))
         }
     }

@@ -6,7 +6,7 @@ ghost use Rattle.ch11_merge.specs.Parts.{frames_of_piece};
 ghost use Rattle.rec_reader.specs.Packets.{PacketData};
 ghost use Rattle.rec_reader.specs.Reading.{Reads};
 ghost use Rattle.rec_reader.specs.ChannelFrames.{channel_frames};
-ghost use Rattle.rec_pieces.specs.Entries.{pieces_of_channel};
+ghost use Rattle.rec_pieces.specs.Entries.{AreThere, PacketPlaces, pieces_of_channel, places_of};
 ghost use Rattle.rec_pieces.specs.Listings.{channel_entries};
 ghost use Rattle.rec_pieces.specs.Sources.{pieces_to_come};
 ghost use Rattle.rec_pieces.specs.PieceListings.{ListsPackets, listed_channels, named_channels};
@@ -18,11 +18,17 @@ pub fn listed_channels_are_those_of_packets()
         → listed_channels listing ≡ named_channels packets }
 {}
 
+/// Law: the packets of a recording are read at their places in its bytes.
+pub fn packets_are_read_at_their_places()
+    ensures { (bytes : List ℕ) (packets : List PacketData) → Reads bytes packets None
+        → AreThere (places_of bytes) packets }
+{}
+
 /// Law: the pieces of a channel that are read at the places of its packets are those of its packets.
 pub fn pieces_of_places_are_those_of_packets()
-    ensures { (bytes : List ℕ) (packets : List PacketData) → Reads bytes packets None
+    ensures { (places : PacketPlaces) (packets : List PacketData) → AreThere places packets
         → (channel : ℕ)
-        → pieces_to_come (channel_entries channel packets) 0 bytes ≡ pieces_of_channel channel packets }
+        → pieces_to_come (channel_entries channel packets) 0 places ≡ pieces_of_channel channel packets }
 {}
 
 /// Law: the frames in the pieces of a channel are those of the channel, in order and once each.

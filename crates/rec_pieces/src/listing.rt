@@ -5,6 +5,7 @@ ghost use Rattle.std.specs.Ordering.{nat_cmp};
 ghost use Rattle.std.specs.BTreeMap.{get};
 ghost use Rattle.rec_reader.specs.ChannelFrames.{packet_frames};
 ghost use Rattle.rec_reader.specs.Views.{packet_data};
+ghost use Rattle.rec_pieces.specs.declared.entry.PieceKind.TheVariants.{Uncounted};
 ghost use Rattle.rec_pieces.specs.Entries.{packet_names};
 ghost use Rattle.rec_pieces.specs.Listings.{first_at, frame_counter, least_of, lesser, entries_held, packet_counters};
 
@@ -62,6 +63,19 @@ impl PieceListing {
         let entry = PieceEntry {
             at: packet.at,
             kind,
+        };
+        add_entry(alloc, &mut self.channels, channel, entry)
+    }
+
+    /// Adds an end that stands at a place, as that of a channel that was offered no frame, whatever its bytes say.
+    pub fn add_uncounted(&mut self, alloc: Global, at: u64, channel: u16) -> Result<(), AllocError>
+        ensures { OnOk result ((packets : List PacketData) (packet : PacketData) → packet.at ≡ at
+            → packet_names packet ≡ Some (channel, Uncounted) → ListsPackets packets self.old
+            → ListsPackets (packets ++ packet ∷ []) self.new) }
+    {
+        let entry = PieceEntry {
+            at,
+            kind: PieceKind::Uncounted,
         };
         add_entry(alloc, &mut self.channels, channel, entry)
     }

@@ -5,7 +5,7 @@ use ch11_packet::{Header, What};
 use std::marker::Model;
 
 /// A packet that owns its bytes, as a [`Reader`](crate::Reader) gives it. Several can be held at
-/// once. Only the reader makes them.
+/// once.
 #[derive(Debug, Drop)]
 pub struct OwnedPacket {
     /// The place of its first byte in the recording, counted from 0.
@@ -39,8 +39,8 @@ impl OwnedPacket {
     ghost use Rattle.rec_reader.specs.Packets.{packet_of};
     ghost use Rattle.rec_reader.specs.Views.{packet_data};
 
-    /// The packet of these parts.
-    pub(crate) fn of(at: u64, header: Header, body: Vec<u8>, what: What) -> OwnedPacket
+    /// The packet of these parts: its place in the recording, its header, all bytes after it, and what these hold.
+    pub fn of(at: u64, header: Header, body: Vec<u8>, what: What) -> OwnedPacket
         requires long { HEADER_LEN + length body.items ≡ header.packet_len }
         requires holds { Holds (header_data header) body.items what }
         ensures parts { result ≡ packet_of at (header_data header) body.items what }

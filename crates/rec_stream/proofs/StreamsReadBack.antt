@@ -184,7 +184,7 @@ piece_read channel greatest counter end (OfRecord place (Some own) body) read no
     spells = read.spells;
     named = read.named;
     own = counter;
-    counted = recounted read.said own counter read.own read.counted;
+    counted = λ shown. recounted read.said own counter read.own (read.counted shown);
   },
   refl,
 )

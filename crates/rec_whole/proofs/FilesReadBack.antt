@@ -40,7 +40,7 @@ use Rattle.rec_reader.specs.Packets.{PacketData, BeginsPackets, SpellsPacket, pa
 use Rattle.rec_pieces.specs.Entries.{named_by, pieces_named, pieces_of_channel, pieces_of_packet}
 use Rattle.rec_whole.specs.WholeFrames.{held_in_packets}
 use Rattle.rec_whole.proofs.PiecesOut.{ContentHas, HasHead, IsOut}
-use Rattle.rec_whole.proofs.ReadPieces.{AreReadFrames, IsOfFrames, IsReadPiece, IsReadRecord, all_of_frames, end_counted, record_channel, record_counter}
+use Rattle.rec_whole.proofs.ReadPieces.{AreReadFrames, IsOfFrames, IsReadRecord, IsSeenPiece, all_of_frames, end_counted, record_channel, record_counter, seen}
 
 -- ---- what a packet holds of a channel
 
@@ -67,10 +67,10 @@ HasFramesIfAny channel (End named offered kept) = Unit {0}
 HasFramesIfAny channel Other = Unit {0}
 
 -- a packet that is read of a file's
-pub record IsReadAs (at : ℕ) (b : FileBlock) (p : PacketData) : Type 0 where
+pub record IsReadAs (hides : Bool) (at : ℕ) (b : FileBlock) (p : PacketData) : Type 0 where
   pub place : p.at ≡ at
   pub spelled : SpellsPacket p (block_packet b)
-  pub held : (channel : ℕ) → flat_map held_in (pieces_of_packet channel p) ≡ block_held channel b.content
+  pub held : (channel : ℕ) → map (seen hides) (flat_map held_in (pieces_of_packet channel p)) ≡ map (seen hides) (block_held channel b.content)
   pub some : HasFramesIfAny p.header.channel p.what
 
 -- ---- its form
@@ -164,10 +164,10 @@ some_frames : (frames : List ReadFrameData) → IsShortPiece frames → length f
 some_frames [] short = absurd short
 some_frames (f ∷ fs) short = λ e. omega (arith, e)
 
-read_frames : (at : ℕ) (b : FileBlock) (channel place : ℕ) (frames : List ReadFrameData) → b.content ≡ PieceBlock channel (OfFrames place frames)
+read_frames : (hides : Bool) (at : ℕ) (b : FileBlock) (channel place : ℕ) (frames : List ReadFrameData) → b.content ≡ PieceBlock channel (OfFrames place frames)
     → b.channel ≡ channel → IsHeader (block_header b) → AreReadFrames channel frames
-    → IsReadAs at b (read_packet at b (HoldsFrames (length frames)))
-read_frames at b channel place frames is own header read =
+    → IsReadAs hides at b (read_packet at b (HoldsFrames (length frames)))
+read_frames hides at b channel place frames is own header read =
     let what = HoldsFrames (length frames) in
     let body : block_body b.content ≡ frames_body frames = ap block_body is in
     let spells = SpellsBody-copied frames (All-from_recursion IsReadFrame frames read.each) (few_frames b channel place frames is header) in
@@ -183,10 +183,10 @@ read_frames at b channel place frames is own header read =
         subst (SpellsBody frames) (sym body) spells,
         refl,
       );
-      held = λ other. frames_held other (block_header b).channel at (block_header b).counter (length frames)
+      held = λ other. ap (map (seen hides)) (frames_held other (block_header b).channel at (block_header b).counter (length frames)
           (data_in (block_header b) (read_packet at b what).body) frames some found
           ∙ ap (λ n. if n == other then map HeldFrame frames else []) named
-          ∙ sym (ap (block_held other) is);
+          ∙ sym (ap (block_held other) is));
       some = (some, some_frames frames read.short);
     }
 
@@ -201,7 +201,7 @@ record_class : (header : HeaderData) (bytes : List ℕ) (said : RecordData) → 
 record_class header bytes (OfProgram channel version first insns) says spells = (says, insns, spells, refl)
 record_class header bytes (OfEnd end) says spells = (says, spells)
 
-one_where : (place : ℕ) (is : Bool) (counter : Option ℕ) (bytes : List ℕ)
+pub one_where : (place : ℕ) (is : Bool) (counter : Option ℕ) (bytes : List ℕ)
     → flat_map held_in (if is then OfRecord place counter bytes ∷ [] else []) ≡ (if is then HeldRecord counter bytes ∷ [] else [])
 one_where place true counter bytes = refl
 one_where place false counter bytes = refl
@@ -226,14 +226,26 @@ counter_again : (place : ℕ) (said : RecordData) (own counter : ℕ) (held : Op
 counter_again place (OfProgram named version first insns) own counter held body is head = same_counter place false own counter held body is head
 counter_again place (OfEnd end) own counter held body is head = same_counter place (end.offered == 0) own counter held body is head
 
+-- counters that are hidden are the same
+seen_record : (hides : Bool) (counter other : Option ℕ) (body : List ℕ) → (hides ≡ false → counter ≡ other)
+    → seen hides (HeldRecord counter body) ≡ seen hides (HeldRecord other body)
+seen_record true counter other body same = refl
+seen_record false counter other body same = ap (λ c. HeldRecord c body) (same refl)
+
+pub seen_where : (hides is : Bool) (counter other : Option ℕ) (body : List ℕ) → (hides ≡ false → counter ≡ other)
+    → map (seen hides) (if is then HeldRecord counter body ∷ [] else []) ≡ map (seen hides) (if is then HeldRecord other body ∷ [] else [])
+seen_where hides true counter other body same = ap (λ h. h ∷ []) (seen_record hides counter other body same)
+seen_where hides false counter other body same = refl
+
 record_has_no_frames : (channel : ℕ) (said : RecordData) → HasFramesIfAny channel (what_of_record said)
 record_has_no_frames channel (OfProgram named version first insns) = tt
 record_has_no_frames channel (OfEnd end) = tt
 
-read_record : (at : ℕ) (b : FileBlock) (channel place : ℕ) (counter : Option ℕ) (body : List ℕ) → b.content ≡ PieceBlock channel (OfRecord place counter body)
-    → b.channel ≡ 0 → IsHeader (block_header b) → (read : IsReadRecord channel counter body)
-    → HasHead (head_of_piece (OfRecord place counter body)) b.counter → IsReadAs at b (read_packet at b (what_of_record read.said))
-read_record at b channel place counter body is own header read head =
+read_record : (hides : Bool) (at : ℕ) (b : FileBlock) (channel place : ℕ) (counter : Option ℕ) (body : List ℕ)
+    → b.content ≡ PieceBlock channel (OfRecord place counter body) → b.channel ≡ 0 → IsHeader (block_header b)
+    → (read : IsReadRecord hides channel counter body) → HasHead (head_of_piece (OfRecord place counter body)) b.counter
+    → IsReadAs hides at b (read_packet at b (what_of_record read.said))
+read_record hides at b channel place counter body is own header read head =
     let what = what_of_record read.said in
     let bytes : block_body b.content ≡ body = ap block_body is in
     let says : SaysRecord (block_header b) = (plain_is b, kind_is b ∙ ap (λ (c : BlockContent). data_type (kind_of c)) is, channel_is b ∙ own) in
@@ -241,26 +253,27 @@ read_record at b channel place counter body is own header read head =
       place = refl;
       spelled = spelled at b what header (record_class (block_header b) (block_body b.content) read.said says
           (subst (SpellsRecord read.said) (sym bytes) read.spells));
-      held = λ other. record_held other (block_header b).channel at (block_header b).counter read.said
+      held = λ other. ap (map (seen hides)) (record_held other (block_header b).channel at (block_header b).counter read.said
           (data_in (block_header b) (read_packet at b what).body)
           ∙ ap (λ l. if record_channel read.said == other then HeldRecord (record_counter read.said (block_header b).counter) l ∷ [] else [])
           (data_are at b what ∙ bytes)
-          ∙ ap (λ n. if record_channel read.said == other then HeldRecord n body ∷ [] else [])
-          (ap (record_counter read.said) (counter_is b) ∙ counter_again place read.said read.own b.counter counter body read.counted head)
-          ∙ ap (λ n. if n == other then HeldRecord counter body ∷ [] else []) read.named
-          ∙ sym (ap (block_held other) is);
+          ∙ ap (λ n. if record_channel read.said == other then HeldRecord (record_counter read.said n) body ∷ [] else []) (counter_is b))
+          ∙ seen_where hides (record_channel read.said == other) (record_counter read.said b.counter) counter body
+          (λ shown. counter_again place read.said read.own b.counter counter body (read.counted shown) head)
+          ∙ ap (map (seen hides)) (ap (λ n. if n == other then HeldRecord counter body ∷ [] else []) read.named
+          ∙ sym (ap (block_held other) is));
       some = record_has_no_frames (block_header b).channel read.said;
     }
 
 -- ---- other packets
 
-read_other : (at : ℕ) (b : FileBlock) → data_type (kind_of b.content) ≢ ETHERNET_DATA → data_type (kind_of b.content) ≢ COMPUTER_GENERATED_DATA
-    → ((channel : ℕ) → [] ≡ block_held channel b.content) → IsHeader (block_header b) → IsReadAs at b (read_packet at b Other)
-read_other at b ethernet generated none header = record {
+read_other : (hides : Bool) (at : ℕ) (b : FileBlock) → data_type (kind_of b.content) ≢ ETHERNET_DATA → data_type (kind_of b.content) ≢ COMPUTER_GENERATED_DATA
+    → ((channel : ℕ) → [] ≡ block_held channel b.content) → IsHeader (block_header b) → IsReadAs hides at b (read_packet at b Other)
+read_other hides at b ethernet generated none header = record {
   place = refl;
   spelled = spelled at b Other header (other (block_header b) (block_body b.content) (λ e. ethernet (sym (kind_is b) ∙ e))
       (λ e. generated (sym (kind_is b) ∙ e)));
-  held = none;
+  held = λ channel. ap (map (seen hides)) (none channel);
   some = tt;
 }
 
@@ -274,54 +287,55 @@ nothing_of : (b : FileBlock) (content : BlockContent) → b.content ≡ content 
     → (channel : ℕ) → [] ≡ block_held channel b.content
 nothing_of b content is none channel = none channel ∙ sym (ap (block_held channel) is)
 
-read_content : (setup : FileSetup) (at : ℕ) (b : FileBlock) (content : BlockContent) → b.content ≡ content → b.channel ≡ block_channel setup content
-    → IsHeader (block_header b) → ContentHas IsReadPiece content b.counter → (p : PacketData) × IsReadAs at b p
-read_content setup at b (SetupBlock text) is own header has = (
+read_content : (hides : Bool) (setup : FileSetup) (at : ℕ) (b : FileBlock) (content : BlockContent) → b.content ≡ content
+    → b.channel ≡ block_channel setup content → IsHeader (block_header b) → ContentHas (IsSeenPiece hides) content b.counter
+    → (p : PacketData) × IsReadAs hides at b p
+read_content hides setup at b (SetupBlock text) is own header has = (
   read_packet at b Other,
-  read_other at b
+  read_other hides at b
       (kind_not b (SetupBlock text) ETHERNET_DATA is (λ e. omega (arith, e)))
       (kind_not b (SetupBlock text) COMPUTER_GENERATED_DATA is (λ e. omega (arith, e)))
       (nothing_of b (SetupBlock text) is (λ channel. refl)) header,
 )
-read_content setup at b (TimeBlock x time) is own header has = (
+read_content hides setup at b (TimeBlock x time) is own header has = (
   read_packet at b Other,
-  read_other at b
+  read_other hides at b
       (kind_not b (TimeBlock x time) ETHERNET_DATA is (λ e. omega (arith, e)))
       (kind_not b (TimeBlock x time) COMPUTER_GENERATED_DATA is (λ e. omega (arith, e)))
       (nothing_of b (TimeBlock x time) is (λ channel. refl)) header,
 )
-read_content setup at b (PieceBlock channel (OfFrames place frames)) is own header has =
-    (read_packet at b (HoldsFrames (length frames)), read_frames at b channel place frames is own header has.0)
-read_content setup at b (PieceBlock channel (OfRecord place counter body)) is own header has =
-    (read_packet at b (what_of_record has.0.said), read_record at b channel place counter body is own header has.0 has.1)
-read_content setup at b (NodeBlock entries) is own header has = (
+read_content hides setup at b (PieceBlock channel (OfFrames place frames)) is own header has =
+    (read_packet at b (HoldsFrames (length frames)), read_frames hides at b channel place frames is own header has.0)
+read_content hides setup at b (PieceBlock channel (OfRecord place counter body)) is own header has =
+    (read_packet at b (what_of_record has.0.said), read_record hides at b channel place counter body is own header has.0 has.1)
+read_content hides setup at b (NodeBlock entries) is own header has = (
   read_packet at b Other,
-  read_other at b
+  read_other hides at b
       (kind_not b (NodeBlock entries) ETHERNET_DATA is (λ e. omega (arith, e)))
       (kind_not b (NodeBlock entries) COMPUTER_GENERATED_DATA is (λ e. omega (arith, e)))
       (nothing_of b (NodeBlock entries) is (λ channel. refl)) header,
 )
-read_content setup at b (RootBlock nodes last) is own header has = (
+read_content hides setup at b (RootBlock nodes last) is own header has = (
   read_packet at b Other,
-  read_other at b
+  read_other hides at b
       (kind_not b (RootBlock nodes last) ETHERNET_DATA is (λ e. omega (arith, e)))
       (kind_not b (RootBlock nodes last) COMPUTER_GENERATED_DATA is (λ e. omega (arith, e)))
       (nothing_of b (RootBlock nodes last) is (λ channel. refl)) header,
 )
 
 -- packets that are read of the bytes of a file's, from a place on
-pub record AreReadAs (at : ℕ) (blocks : List FileBlock) (found : List PacketData) : Type 0 where
+pub record AreReadAs (hides : Bool) (at : ℕ) (blocks : List FileBlock) (found : List PacketData) : Type 0 where
   pub begin : BeginsPackets at found (file_bytes blocks) []
-  pub held : (channel : ℕ) → held_in_packets channel found ≡ held_of channel (merged_in blocks)
+  pub held : (channel : ℕ) → map (seen hides) (held_in_packets channel found) ≡ map (seen hides) (held_of channel (merged_in blocks))
   pub some : AllByRecursion (λ (p : PacketData). HasFramesIfAny p.header.channel p.what) found
 
-pub read_all : (setup : FileSetup) (at : ℕ) (blocks : List FileBlock) → AllByRecursion (IsOut setup IsReadPiece) blocks
-    → (found : List PacketData) × AreReadAs at blocks found
-read_all setup at [] out = ([], record { begin = refl; held = λ channel. refl; some = tt })
-read_all setup at (b ∷ blocks) out =
-    let first = read_content setup at b b.content refl out.0.channel out.0.header out.0.content in
+pub read_all : (hides : Bool) (setup : FileSetup) (at : ℕ) (blocks : List FileBlock) → AllByRecursion (IsOut setup (IsSeenPiece hides)) blocks
+    → (found : List PacketData) × AreReadAs hides at blocks found
+read_all hides setup at [] out = ([], record { begin = refl; held = λ channel. refl; some = tt })
+read_all hides setup at (b ∷ blocks) out =
+    let first = read_content hides setup at b b.content refl out.0.channel out.0.header out.0.content in
     let p = first.0 in
-    let rest = read_all setup (at + p.header.packet_len) blocks out.1 in (
+    let rest = read_all hides setup (at + p.header.packet_len) blocks out.1 in (
       p ∷ rest.0,
       record {
         begin = (
@@ -329,10 +343,23 @@ read_all setup at (b ∷ blocks) out =
           record { place = first.1.place; spelling = block_packet b; spelled = first.1.spelled; whole = refl },
           rest.1.begin,
         );
-        held = λ channel. flat_map-append held_in (pieces_of_packet channel p) (pieces_of_channel channel rest.0)
-            ∙ ap (λ l. l ++ held_in_packets channel rest.0) (first.1.held channel)
-            ∙ ap (λ l. block_held channel b.content ++ l) (rest.1.held channel)
-            ∙ sym (held_with channel b.content b.counter blocks);
+        held = λ channel. ap (map (seen hides)) (flat_map-append held_in (pieces_of_packet channel p) (pieces_of_channel channel rest.0))
+            ∙ map-append (seen hides) (flat_map held_in (pieces_of_packet channel p)) (held_in_packets channel rest.0)
+            ∙ ap (λ l. l ++ map (seen hides) (held_in_packets channel rest.0)) (first.1.held channel)
+            ∙ ap (λ l. map (seen hides) (block_held channel b.content) ++ l) (rest.1.held channel)
+            ∙ sym (map-append (seen hides) (block_held channel b.content) (held_of channel (merged_in blocks)))
+            ∙ sym (ap (map (seen hides)) (held_with channel b.content b.counter blocks));
         some = (first.1.some, rest.1.some);
       },
     )
+
+-- nothing is hidden
+shown : (all : List Held) → map (seen false) all ≡ all
+shown [] = refl
+shown (HeldFrame frame ∷ all) = ap (λ l. HeldFrame frame ∷ l) (shown all)
+shown (HeldRecord counter body ∷ all) = ap (λ l. HeldRecord counter body ∷ l) (shown all)
+
+pub all_held : (at : ℕ) (blocks : List FileBlock) (found : List PacketData) → AreReadAs false at blocks found → (channel : ℕ)
+    → held_in_packets channel found ≡ held_of channel (merged_in blocks)
+all_held at blocks found read channel =
+    sym (shown (held_in_packets channel found)) ∙ read.held channel ∙ shown (held_of channel (merged_in blocks))

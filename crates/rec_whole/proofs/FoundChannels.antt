@@ -1,9 +1,11 @@
 -- What is found in a whole file is what was recorded.
-use Rattle.std.proofs.Common.{ℕ, ◌+◌, ◌≡◌, ◌≢◌, inl, inr, List, [], ◌∷◌, ◌++◌, map, length, Option, None, Some, refl, sym, subst, ap, ◌∙◌, arith}
-use Rattle.std.specs.Prelude.{◌==◌, if◌then◌else◌, IfSome}
-use Rattle.std.specs.List.{AllByRecursion}
-use Rattle.std.proofs.lemmas.Bool.{cases_Bool, eq-eqb, eqb-true, eqb-false, ne_eqb}
+use Rattle.std.proofs.Common.{ℕ, ◌≡◌, ◌≢◌, inl, inr, List, [], ◌∷◌, ◌++◌, map, length, Option, None, Some, refl, sym, subst, ap, ◌∙◌, arith}
+use Rattle.std.specs.Prelude.{Bool, false, ◌==◌, if◌then◌else◌, IfSome}
+use Rattle.std.specs.List.{AllByRecursion, AllZip, flat_map}
+use Rattle.std.proofs.lemmas.Bool.{cases_Bool, eq-eqb, eqb-true, eqb-false, ne_eqb, true≢false}
+use Rattle.std.proofs.lemmas.List.{map-append}
 use Rattle.std.proofs.lemmas.Option.{none-some}
+use Rattle.std.proofs.lemmas.Grind.{flat_map-append}
 use Rattle.ch11_packet.specs.declared.class.What.{What}
 use Rattle.ch11_packet.specs.declared.class.What.TheVariants.{Frames as HoldsFrames, Program, End, Other}
 use Rattle.ch11_packet.specs.Header.{HeaderData}
@@ -12,50 +14,79 @@ use Rattle.ch11_packet.specs.FramesRead.{ReadFrameData}
 use Rattle.ch11_packet.proofs.Classing.{said_by_body}
 use Rattle.ch11_clock.specs.declared.origin.Origin.{Origin}
 use Rattle.ch11_file.specs.declared.setup.FileSetup.{FileSetup}
-use Rattle.ch11_file.specs.FileBlocks.{FileBlock, file_bytes}
+use Rattle.ch11_merge.specs.Kept.{Held, held_in, held_of}
+use Rattle.ch11_file.specs.FileBlocks.{FileBlock, file_bytes, merged_in}
 use Rattle.ch11_file.specs.WholeFile.{IsWholeFile}
 use Rattle.rec_reader.specs.declared.audits.answer.Audit.{Audit}
-use Rattle.rec_reader.specs.Packets.{PacketData, BeginsPackets}
+use Rattle.rec_reader.specs.Packets.{PacketData, packet_of}
 use Rattle.rec_reader.specs.ChannelFrames.{channel_frames}
 use Rattle.rec_reader.specs.Channels.{Saying, saying_in, saying_of}
 use Rattle.rec_reader.specs.Audits.{IsAudit}
 use Rattle.rec_pieces.specs.declared.entry.PieceKind.{PieceKind}
-use Rattle.rec_pieces.specs.declared.entry.PieceKind.TheVariants.{Frames}
-use Rattle.rec_pieces.specs.Entries.{named_by, packet_names}
+use Rattle.rec_pieces.specs.declared.entry.PieceKind.TheVariants.{Frames, Record, Uncounted}
+use Rattle.rec_pieces.specs.Entries.{named_by, packet_names, pieces_of_channel, pieces_of_packet}
+use Rattle.rec_pieces.specs.ToldPackets.{IsSpelled}
 use Rattle.rec_pieces.specs.Listings.{other_after, other_from, other_of}
 use Rattle.rec_reader.specs.Reading.{Reads}
 use Rattle.rec_whole.specs.WholeFrames.{held_in_packets}
 use Rattle.rec_whole.specs.WholeRecordings.{facts_with}
-use Rattle.rec_whole.specs.FilesFound.{AreApprovedAs, HasNoFault, HaveSameChannels}
+use Rattle.rec_whole.specs.ToldOfChannels.{told_by, told_in, told_of}
+use Rattle.rec_whole.specs.ToldOfChannels.Told.{ToldFrame}
+use Rattle.rec_whole.specs.FilesFound.{AreApprovedAs, HasNoFault, HaveSameChannels, TellTheSame}
 use Rattle.rec_whole.proofs.KeptChannels.{blocks_out, file_held}
-use Rattle.rec_whole.proofs.FilesReadBack.{AreReadAs, HasFramesIfAny, read_all}
-use Rattle.rec_whole.proofs.ToldChannels.{told_by, told_in, told_of, same_told, same_frames, same_programs, same_ends}
-use Rattle.rec_whole.proofs.ToldChannels.Told.{ToldFrame}
+use Rattle.rec_whole.proofs.FilesReadBack.{AreReadAs, HasFramesIfAny, all_held, one_where, read_all, seen_where}
+use Rattle.rec_whole.proofs.ReadPieces.{AreListedBy, IsListedBy, begun_spelled, end_counted, listed_themselves, listed_what, seen}
+use Rattle.rec_whole.proofs.ToldChannels.{same_told, same_frames, same_programs, same_ends}
 use Rattle.rec_whole.proofs.FaultsFound.{no_fault_found}
 use Rattle.rec_whole.proofs.PassingChannels.{SaysSome, SayTheSame, approved_found}
 
-pub reads_packets : (recording : List ℕ) (packets : List PacketData) (rules : List Origin) (most : ℕ) (setup : FileSetup) (blocks : List FileBlock)
-    → Reads recording packets None → IsWholeFile (facts_with packets rules most setup) blocks → (found : List PacketData) × AreReadAs 0 blocks found
-reads_packets recording packets rules most setup blocks reads whole =
-    read_all setup 0 blocks (blocks_out recording packets rules most setup blocks reads whole)
+pub reads_file : (hides : Bool) (blocks : List FileBlock) (found : List PacketData) → AreReadAs hides 0 blocks found → Reads (file_bytes blocks) found None
+reads_file hides blocks found read = record { rest = []; held = read.begin; ends = refl }
 
-pub reads_file : (blocks : List FileBlock) (found : List PacketData) → AreReadAs 0 blocks found → Reads (file_bytes blocks) found None
-reads_file blocks found read = record { rest = []; held = read.begin; ends = refl }
+-- ---- what packets are listed as
 
-pub found_same : (recording : List ℕ) (packets : List PacketData) (rules : List Origin) (most : ℕ) (setup : FileSetup) (blocks : List FileBlock)
-    → Reads recording packets None → IsWholeFile (facts_with packets rules most setup) blocks
-    → (found : List PacketData) → AreReadAs 0 blocks found → HaveSameChannels packets found
-found_same recording packets rules most setup blocks reads whole found read =
-    let held : (channel : ℕ) → held_in_packets channel found ≡ held_in_packets channel packets = λ channel.
-    read.held channel ∙ file_held recording packets rules most setup blocks reads whole channel in
-    let told : (channel : ℕ) → channel ≢ 0 → told_of channel found ≡ told_of channel packets = λ channel some.
-    same_told channel packets found recording (file_bytes blocks) reads.rest [] some reads.held read.begin (held channel) in
-    record {
-      held = held;
-      frames = λ channel some. same_frames channel packets found (told channel some);
-      programs = λ channel some. same_programs channel packets found (told channel some);
-      ends = λ channel some. same_ends channel packets found (told channel some);
-    }
+-- where counters are hidden, what is listed holds what is told
+pair_held : (hides : Bool) (channel : ℕ) (told listed : PacketData) → IsListedBy hides told listed
+    → map (seen hides) (flat_map held_in (pieces_of_packet channel listed)) ≡ map (seen hides) (flat_map held_in (pieces_of_packet channel told))
+pair_held hides channel told listed is =
+    ap Seen is.0 ∙ elim (listed_what hides told.what listed.what is.1) as (λ _. Seen (with_what listed.what) ≡ Seen told) [
+      | inl same ↦ ap (λ what. Seen (with_what what)) same
+      | inr end ↦
+          let counted = if end.offered == 0 then None else Some told.header.counter in
+          ap (λ what. Seen (with_what what)) end.listed_is
+          ∙ ap (map (seen hides)) (one_where told.at (end.channel == channel) None bytes)
+          ∙ seen_where hides (end.channel == channel) None counted bytes (λ shown. absurd (true≢false (sym end.hidden ∙ shown)))
+          ∙ sym (ap (map (seen hides)) (ap (λ ps. flat_map held_in (if end.channel == channel then ps else []))
+          (end_counted (end.offered == 0) told.at told.header.counter bytes) ∙ one_where told.at (end.channel == channel) counted bytes))
+          ∙ sym (ap (λ what. Seen (with_what what)) end.told_is)
+    ]
+  where
+    bytes : List ℕ
+    bytes = data_in told.header told.body
+
+    with_what : What → PacketData
+    with_what what = packet_of told.at told.header told.body what
+
+    Seen : PacketData → List Held
+    Seen p = map (seen hides) (flat_map held_in (pieces_of_packet channel p))
+
+packets_held : (hides : Bool) (channel : ℕ) (packet : PacketData) (packets : List PacketData)
+    → map (seen hides) (held_in_packets channel (packet ∷ packets))
+    ≡ map (seen hides) (flat_map held_in (pieces_of_packet channel packet)) ++ map (seen hides) (held_in_packets channel packets)
+packets_held hides channel packet packets =
+    ap (map (seen hides)) (flat_map-append held_in (pieces_of_packet channel packet) (pieces_of_channel channel packets))
+    ∙ map-append (seen hides) (flat_map held_in (pieces_of_packet channel packet)) (held_in_packets channel packets)
+
+listed_held : (hides : Bool) (channel : ℕ) (told packets : List PacketData) → AllZip (IsListedBy hides) told packets
+    → map (seen hides) (held_in_packets channel packets) ≡ map (seen hides) (held_in_packets channel told)
+listed_held hides channel [] [] listed = refl
+listed_held hides channel [] (p ∷ ps) listed = absurd listed
+listed_held hides channel (t ∷ ts) [] listed = absurd listed
+listed_held hides channel (t ∷ ts) (p ∷ ps) listed =
+    packets_held hides channel p ps
+    ∙ ap (λ l. l ++ map (seen hides) (held_in_packets channel ps)) (pair_held hides channel t p listed.0)
+    ∙ ap (λ l. map (seen hides) (flat_map held_in (pieces_of_packet channel t)) ++ l) (listed_held hides channel ts ps listed.1)
+    ∙ sym (packets_held hides channel t ts)
 
 -- ---- the audit
 
@@ -75,13 +106,12 @@ class_says header bytes (Program named version first count) has some =
 class_says header bytes (End named offered kept) has some = ((let named = has.1.0.named in λ e. omega (arith, e, named)), λ e. cc)
 class_says header bytes Other has some = tt
 
-all_say : (at : ℕ) (packets : List PacketData) (bytes rest : List ℕ) → BeginsPackets at packets bytes rest
-    → AllByRecursion (λ (p : PacketData). HasFramesIfAny p.header.channel p.what) packets
+all_say : (packets : List PacketData) → AllByRecursion IsSpelled packets → AllByRecursion (λ (p : PacketData). HasFramesIfAny p.header.channel p.what) packets
     → AllByRecursion (λ (p : PacketData). SaysSome (saying_of p)) packets
-all_say at [] bytes rest begins some = tt
-all_say at (p ∷ ps) bytes rest begins some = (
-  class_says p.header (data_in p.header p.body) p.what begins.1.spelled.holds.class some.0,
-  all_say (at + p.header.packet_len) ps begins.0 rest begins.2 some.1,
+all_say [] spelled some = tt
+all_say (p ∷ ps) spelled some = (
+  class_says p.header (data_in p.header p.body) p.what spelled.0.1.holds.class some.0,
+  all_say ps spelled.1 some.1,
 )
 
 -- no packet says something of channel 0
@@ -123,38 +153,82 @@ named_says header bytes (Program named version first count) has some = let named
 named_says header bytes (End named offered kept) has some = let named = has.1.0.named in λ e. omega (arith, e, named)
 named_says header bytes Other has some = tt
 
-all_named : (at : ℕ) (packets : List PacketData) (bytes rest : List ℕ) → BeginsPackets at packets bytes rest → other_of packets ≡ None
-    → AllByRecursion (λ (p : PacketData). IfSome (saying_of p) (λ s. s.0 ≢ 0)) packets
-all_named at [] bytes rest begins none = tt
-all_named at (p ∷ ps) bytes rest begins none =
-    let both = names_or_not p.at (packet_names p) ps none in (
-      named_says p.header (data_in p.header p.body) p.what begins.1.spelled.holds.class both.0,
-      all_named (at + p.header.packet_len) ps begins.0 rest begins.2 both.1,
-    )
+told_named : (hides : Bool) (told listed : PacketData) → IsSpelled told → IsListedBy hides told listed → packet_names listed ≢ None
+    → IfSome (saying_of told) (λ s. s.0 ≢ 0)
+told_named hides told listed spelled is names = elim (listed_what hides told.what listed.what is.1) as (λ _. IfSome (saying_of told) (λ s. s.0 ≢ 0)) [
+  | inl same ↦ named_says told.header bytes told.what has
+      (λ none. names (ap packet_names is.0 ∙ ap (named_by told.header.channel) same ∙ none))
+  | inr end ↦ subst (λ what. IfSome (saying_in told.header.channel what bytes) (λ s. s.0 ≢ 0)) (sym end.told_is)
+      (named_says told.header bytes (End end.channel end.offered end.kept) (subst (HasClass told.header bytes) end.told_is has)
+      (λ none. none-some (end.channel, if end.offered == 0 then Uncounted else Record) (sym none)))
+]
+  where
+    bytes : List ℕ
+    bytes = data_in told.header told.body
 
-module _ (recording : List ℕ) (packets : List PacketData) (rules : List Origin) (most : ℕ) (setup : FileSetup) (blocks : List FileBlock)
-    (reads : Reads recording packets None) (whole : IsWholeFile (facts_with packets rules most setup) blocks) (none : other_of packets ≡ None)
-    (found : List PacketData) (read : AreReadAs 0 blocks found) where
-  some_said : AllByRecursion (λ (p : PacketData). SaysSome (saying_of p)) found
-  some_said = all_say 0 found (file_bytes blocks) [] read.begin read.some
+    has : HasClass told.header bytes told.what
+    has = spelled.1.holds.class
 
-  -- they say the same of all channels, also of channel 0, of which they say nothing
-  all_same : SayTheSame packets found
-  all_same channel =
-      let held : held_in_packets channel found ≡ held_in_packets channel packets =
-      read.held channel ∙ file_held recording packets rules most setup blocks reads whole channel in
-      let zero_none : told_of 0 found ≡ told_of 0 packets =
-      told_of_0 found (all_of_0 found some_said) ∙ sym (told_of_0 packets (all_named 0 packets recording reads.rest reads.held none)) in
-      elim (cases_Bool (channel == 0)) as (λ _. told_of channel found ≡ told_of channel packets) [
-        | inl is_zero ↦ subst (λ n. told_of n found ≡ told_of n packets) (sym (eqb-true channel 0 is_zero)) zero_none
-        | inr more ↦ same_told channel packets found recording (file_bytes blocks) reads.rest [] (eqb-false channel 0 more) reads.held read.begin held
-      ]
+all_named : (hides : Bool) (told packets : List PacketData) → AreListedBy hides told packets → other_of packets ≡ None
+    → AllByRecursion (λ (p : PacketData). IfSome (saying_of p) (λ s. s.0 ≢ 0)) told
+all_named hides [] packets listed none = tt
+all_named hides (t ∷ ts) [] listed none = absurd listed.1
+all_named hides (t ∷ ts) (p ∷ ps) listed none =
+    let both = names_or_not p.at (packet_names p) ps none in
+    (told_named hides t p listed.0.0 listed.1.0 both.0, all_named hides ts ps (listed.0.1, listed.1.1) both.1)
 
-  pub found_approved : (audit : Audit) → IsAudit packets audit → AreApprovedAs found audit
-  found_approved audit is = approved_found packets found audit all_same some_said is
+-- ---- what is found
 
-  pub found_right : HasNoFault packets → HasNoFault found
-  found_right right = no_fault_found packets found all_same some_said right
+module _ (hides : Bool) (told packets : List PacketData) (rules : List Origin) (most : ℕ) (setup : FileSetup) (blocks : List FileBlock)
+    (listed : AreListedBy hides told packets) (whole : IsWholeFile (facts_with packets rules most setup) blocks) where
+  pub reads_packets : (found : List PacketData) × AreReadAs hides 0 blocks found
+  reads_packets = read_all hides setup 0 blocks (blocks_out hides told packets rules most setup blocks listed whole)
 
-  pub found_frames : (channel : ℕ) → channel_frames channel found ≡ channel_frames channel packets
-  found_frames channel = same_frames channel packets found (all_same channel)
+  pub packets_kept : (channel : ℕ) → held_of channel (merged_in blocks) ≡ held_in_packets channel packets
+  packets_kept = file_held hides told packets rules most setup blocks listed whole
+
+  module _ (found : List PacketData) (read : AreReadAs hides 0 blocks found) where
+    spelled : AllByRecursion IsSpelled found
+    spelled = begun_spelled 0 found (file_bytes blocks) [] read.begin
+
+    -- they tell the same of each channel from 1 on
+    pub found_told : TellTheSame told found
+    found_told channel some =
+        same_told hides channel told found some listed.0 spelled
+        (read.held channel ∙ ap (map (seen hides)) (packets_kept channel) ∙ listed_held hides channel told packets listed.1)
+
+    module _ (none : other_of packets ≡ None) where
+      some_said : AllByRecursion (λ (p : PacketData). SaysSome (saying_of p)) found
+      some_said = all_say found spelled read.some
+
+      -- and of channel 0 nothing
+      all_same : SayTheSame told found
+      all_same channel =
+          let zero_none : told_of 0 found ≡ told_of 0 told =
+          told_of_0 found (all_of_0 found some_said) ∙ sym (told_of_0 told (all_named hides told packets listed none)) in
+          elim (cases_Bool (channel == 0)) as (λ _. told_of channel found ≡ told_of channel told) [
+            | inl is_zero ↦ subst (λ n. told_of n found ≡ told_of n told) (sym (eqb-true channel 0 is_zero)) zero_none
+            | inr more ↦ found_told channel (eqb-false channel 0 more)
+          ]
+
+      pub found_approved : (audit : Audit) → IsAudit told audit → AreApprovedAs found audit
+      found_approved audit is = approved_found told found audit all_same some_said is
+
+      pub found_right : HasNoFault told → HasNoFault found
+      found_right right = no_fault_found told found all_same some_said right
+
+      pub found_frames : (channel : ℕ) → channel_frames channel found ≡ channel_frames channel told
+      found_frames channel = same_frames channel told found (all_same channel)
+
+pub found_same : (recording : List ℕ) (packets : List PacketData) (rules : List Origin) (most : ℕ) (setup : FileSetup) (blocks : List FileBlock)
+    → Reads recording packets None → IsWholeFile (facts_with packets rules most setup) blocks
+    → (found : List PacketData) → AreReadAs false 0 blocks found → HaveSameChannels packets found
+found_same recording packets rules most setup blocks reads whole found read =
+    let listed = listed_themselves recording packets reads in
+    let told = found_told false packets packets rules most setup blocks listed whole found read in
+    record {
+      held = λ channel. all_held 0 blocks found read channel ∙ packets_kept false packets packets rules most setup blocks listed whole channel;
+      frames = λ channel some. same_frames channel packets found (told channel some);
+      programs = λ channel some. same_programs channel packets found (told channel some);
+      ends = λ channel some. same_ends channel packets found (told channel some);
+    }

@@ -1,5 +1,5 @@
 -- A whole file keeps of each channel, also of one that isn't named, what its packets hold; and its packets are short.
-use Rattle.std.proofs.Common.{ℕ, ◌+◌, ◌^◌, ◌≡◌, ◌<◌, ◌⊎◌, inl, inr, List, [], ◌∷◌, ◌++◌, Option, None, Some, refl, sym, subst, ap, ◌∙◌}
+use Rattle.std.proofs.Common.{ℕ, ◌^◌, ◌≡◌, ◌<◌, ◌⊎◌, inl, inr, List, [], ◌∷◌, ◌++◌, Option, None, Some, refl, sym, subst, ap, ◌∙◌}
 use Rattle.std.specs.Prelude.{Bool, true, false, ◌==◌, if◌then◌else◌, slice_get}
 use Rattle.std.specs.Option.{option_map}
 use Rattle.std.specs.List.{AllByRecursion, flat_map}
@@ -18,8 +18,7 @@ use Rattle.ch11_file.specs.FileBlocks.{BlockContent, FileBlock, merged_in}
 use Rattle.ch11_file.specs.FileBlocks.BlockContent.{SetupBlock, TimeBlock, PieceBlock, NodeBlock, RootBlock}
 use Rattle.ch11_file.specs.WholeFile.{IsWholeFile}
 use Rattle.ch11_file.proofs.FileMerges.{file_keeps, file_has_none_else}
-use Rattle.rec_reader.specs.Packets.{PacketData, BeginsPackets}
-use Rattle.rec_reader.specs.Reading.{Reads}
+use Rattle.rec_reader.specs.Packets.{PacketData}
 use Rattle.rec_pieces.specs.declared.entry.PieceKind.{PieceKind}
 use Rattle.rec_pieces.specs.declared.entry.PieceKind.TheVariants.{Frames, Record, Uncounted}
 use Rattle.rec_pieces.specs.declared.entry.PieceEntry.{PieceEntry}
@@ -30,7 +29,7 @@ use Rattle.rec_whole.specs.WholeFrames.{HasShortFrames, held_in_packets}
 use Rattle.rec_whole.specs.WholeRecordings.{channel_of_packets, channels_of_packets, facts_with}
 use Rattle.rec_whole.proofs.ChannelsApart.{channel_nowhere, channel_there, channels_apart}
 use Rattle.rec_whole.proofs.PiecesOut.{AllLeftHave, ContentHas, IsOut, file_out}
-use Rattle.rec_whole.proofs.ReadPieces.{IsReadPiece, parts_read, pieces_read}
+use Rattle.rec_whole.proofs.ReadPieces.{AreListedBy, IsListedSeen, IsReadPiece, IsSeenPiece, listed_what, parts_seen, pieces_seen}
 
 -- ---- channels that aren't named
 
@@ -82,25 +81,42 @@ class_named header bytes (End named offered kept) channel at is has some =
     subst (λ n. n < 2 ^ 16) (some_named channel named at (if offered == 0 then Uncounted else Record) some) has.1.0.channel_fits
 class_named header bytes Other channel at is has some = absurd (true≢false (sym some))
 
-named_fit : (channel at : ℕ) (packets : List PacketData) (bytes rest : List ℕ) → BeginsPackets at packets bytes rest
-    → is_named packets channel ≡ true → channel < 2 ^ 16
-named_fit channel at [] bytes rest begins some = absurd (true≢false (sym some))
-named_fit channel at (p ∷ ps) bytes rest begins some =
+listed_fits : (hides : Bool) (header : HeaderData) (bytes : List ℕ) (told listed : What) (channel at : ℕ) → IsHeader header
+    → HasClass header bytes told → IsListedSeen hides told listed → are_some (entry_named channel at (named_by header.channel listed)) ≡ true
+    → channel < 2 ^ 16
+listed_fits hides header bytes told listed channel at is has so some = elim (listed_what hides told listed so) as (λ _. channel < 2 ^ 16) [
+  | inl same ↦ class_named header bytes told channel at is has
+      (subst (λ what. are_some (entry_named channel at (named_by header.channel what)) ≡ true) same some)
+  | inr end ↦ subst (λ n. n < 2 ^ 16)
+      (some_named channel end.channel at Uncounted
+      (subst (λ what. are_some (entry_named channel at (named_by header.channel what)) ≡ true) end.listed_is some))
+      (subst (HasClass header bytes) end.told_is has).1.0.channel_fits
+]
+
+named_fit : (hides : Bool) (channel : ℕ) (told packets : List PacketData) → AreListedBy hides told packets → is_named packets channel ≡ true
+    → channel < 2 ^ 16
+named_fit hides channel [] [] listed some = absurd (true≢false (sym some))
+named_fit hides channel [] (p ∷ ps) listed some = absurd listed.1
+named_fit hides channel (t ∷ ts) [] listed some = absurd listed.1
+named_fit hides channel (t ∷ ts) (p ∷ ps) listed some =
     elim (ahead_or_behind (entry_of_packet channel p) (channel_entries channel ps) some) as (λ _. channel < 2 ^ 16) [
-      | inl here ↦ class_named p.header (data_in p.header p.body) p.what channel p.at begins.1.spelled.is_header begins.1.spelled.holds.class here
-      | inr more ↦ named_fit channel (at + p.header.packet_len) ps begins.0 rest begins.2 more
+      | inl here ↦
+          let spelled = listed.0.0.1 in
+          listed_fits hides t.header (data_in t.header t.body) t.what p.what channel t.at spelled.is_header spelled.holds.class listed.1.0.1
+          (subst (λ (q : PacketData). are_some (entry_of_packet channel q) ≡ true) listed.1.0.0 here)
+      | inr more ↦ named_fit hides channel ts ps (listed.0.1, listed.1.1) more
     ]
 
 -- ---- all channels
 
-pub file_held : (recording : List ℕ) (packets : List PacketData) (rules : List Origin) (most : ℕ) (setup : FileSetup) (blocks : List FileBlock)
-    → Reads recording packets None → IsWholeFile (facts_with packets rules most setup) blocks → (channel : ℕ)
+pub file_held : (hides : Bool) (told packets : List PacketData) (rules : List Origin) (most : ℕ) (setup : FileSetup) (blocks : List FileBlock)
+    → AreListedBy hides told packets → IsWholeFile (facts_with packets rules most setup) blocks → (channel : ℕ)
     → held_of channel (merged_in blocks) ≡ held_in_packets channel packets
-file_held recording packets rules most setup blocks reads whole channel =
+file_held hides told packets rules most setup blocks listed whole channel =
     let facts = facts_with packets rules most setup in
     elim (cases_Bool (is_named packets channel)) as (λ _. held_of channel (merged_in blocks) ≡ held_in_packets channel packets) [
       | inl is ↦
-          let there = channel_there packets channel (named_fit channel 0 packets recording reads.rest reads.held is) is in
+          let there = channel_there packets channel (named_fit hides channel told packets listed is) is in
           file_keeps facts blocks whole (channels_apart packets) there.0 (channel_of_packets packets channel) there.1
       | inr off ↦ file_has_none_else facts blocks whole channel (channel_nowhere packets channel off)
           ∙ sym (ap (flat_map held_in) (unnamed channel packets off))
@@ -114,16 +130,18 @@ left_at P packets all None c is = absurd (none-some c is)
 left_at P packets all (Some id) c is =
     subst (λ (d : ChannelLeft). AllByRecursion (P d.channel) d.pieces) (same_Some (channel_of_packets packets id) c is) (all id)
 
-all_left : (packets : List PacketData) → ((channel : ℕ) → AllByRecursion (IsReadPiece channel) (pieces_of_channel channel packets))
-    → AllLeftHave IsReadPiece (channels_of_packets packets)
-all_left packets all at c is =
-    left_at IsReadPiece packets all (slice_get (named_channels packets) at) c
+all_left : (P : ℕ → FilePiece → Type 0) (packets : List PacketData) → ((channel : ℕ) → AllByRecursion (P channel) (pieces_of_channel channel packets))
+    → AllLeftHave P (channels_of_packets packets)
+all_left P packets all at c is =
+    left_at P packets all (slice_get (named_channels packets) at) c
     (sym (slice_get-map (channel_of_packets packets) (named_channels packets) at) ∙ is)
 
-pub blocks_out : (recording : List ℕ) (packets : List PacketData) (rules : List Origin) (most : ℕ) (setup : FileSetup) (blocks : List FileBlock)
-    → Reads recording packets None → IsWholeFile (facts_with packets rules most setup) blocks → AllByRecursion (IsOut setup IsReadPiece) blocks
-blocks_out recording packets rules most setup blocks reads whole =
-    file_out IsReadPiece parts_read (facts_with packets rules most setup) blocks whole (all_left packets (pieces_read recording packets reads))
+pub blocks_out : (hides : Bool) (told packets : List PacketData) (rules : List Origin) (most : ℕ) (setup : FileSetup) (blocks : List FileBlock)
+    → AreListedBy hides told packets → IsWholeFile (facts_with packets rules most setup) blocks
+    → AllByRecursion (IsOut setup (IsSeenPiece hides)) blocks
+blocks_out hides told packets rules most setup blocks listed whole =
+    file_out (IsSeenPiece hides) (parts_seen hides) (facts_with packets rules most setup) blocks whole
+    (all_left (IsSeenPiece hides) packets (pieces_seen hides told packets listed))
 
 -- ---- short packets
 

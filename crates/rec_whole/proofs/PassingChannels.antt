@@ -23,9 +23,10 @@ use Rattle.rec_reader.specs.Channels.Saying.{OfFrames, OfProgram, OfEnd}
 use Rattle.rec_reader.specs.Audits.{Accepts, FollowsProgram, IsJudgement, JudgesSaying, Judges, EachPasses, IsClosing, Closes}
 use Rattle.rec_reader.specs.Audits.{line_with, line_of, AreLines, other_count, IsAudit}
 use Rattle.rec_whole.specs.FilesFound.{AreApprovedAs}
-use Rattle.rec_whole.proofs.ToldChannels.{Told, told_by, told_in, told_of, ends_by, ends_of_told, programs_by, end_told, program_told}
+use Rattle.rec_whole.specs.ToldOfChannels.{Told, told_by, told_in, told_of}
+use Rattle.rec_whole.proofs.ToldChannels.{ends_by, ends_of_told, programs_by, end_told, program_told}
 use Rattle.rec_whole.proofs.ToldChannels.{same_ends, same_frames, same_programs}
-use Rattle.rec_whole.proofs.ToldChannels.Told.{ToldFrame, ToldProgram, ToldEnd}
+use Rattle.rec_whole.specs.ToldOfChannels.Told.{ToldFrame, ToldProgram, ToldEnd}
 
 -- ---- what is told of one channel
 

@@ -1,7 +1,7 @@
 -- What packets say of a channel, frame by frame, is what they hold of it.
-use Rattle.std.proofs.Common.{ℕ, ◌+◌, ◌≡◌, ◌≢◌, inl, inr, List, [], ◌∷◌, ◌++◌, map, length, drop, Option, None, Some, refl, sym, subst, ap, ◌∙◌}
+use Rattle.std.proofs.Common.{ℕ, ◌≡◌, ◌≢◌, inl, inr, List, [], ◌∷◌, ◌++◌, map, length, drop, Option, None, Some, refl, sym, subst, ap, ◌∙◌}
 use Rattle.std.specs.Prelude.{Bool, true, false, ◌==◌, if◌then◌else◌}
-use Rattle.std.specs.List.{AllZip, flat_map}
+use Rattle.std.specs.List.{AllByRecursion, AllZip, flat_map}
 use Rattle.std.proofs.lemmas.Bool.{cases_Bool, eqb-true, ne_eqb}
 use Rattle.std.proofs.lemmas.Grind.{flat_map-append}
 use Rattle.bpf_insn.specs.declared.insn.Insn.{Insn}
@@ -21,34 +21,17 @@ use Rattle.ch11_merge.specs.Merging.FilePiece.{OfRecord}
 use Rattle.ch11_merge.specs.Parts.{frames_pieces}
 use Rattle.rec_reader.specs.declared.audits.channel.ChannelProgram.{ChannelProgram}
 use Rattle.rec_reader.specs.declared.audits.channel.ChannelEnd.{ChannelEnd}
-use Rattle.rec_reader.specs.Packets.{PacketData, BeginsPackets}
+use Rattle.rec_reader.specs.Packets.{PacketData}
 use Rattle.rec_reader.specs.ChannelFrames.{channel_frames, frames_held, packet_frames}
 use Rattle.rec_reader.specs.Channels.{Saying, saying_in, saying_of, program_said, programs_of, end_said, ends_of, stored_program}
 use Rattle.rec_reader.specs.Channels.Saying.{OfFrames, OfProgram, OfEnd}
 use Rattle.rec_pieces.specs.Entries.{named_by, pieces_named, pieces_of_channel, pieces_of_packet}
 use Rattle.rec_whole.specs.WholeFrames.{held_in_packets}
-use Rattle.rec_whole.proofs.ReadPieces.{end_counted}
+use Rattle.rec_whole.specs.ToldOfChannels.{Told, told_in, told_of}
+use Rattle.rec_whole.specs.ToldOfChannels.Told.{ToldFrame, ToldProgram, ToldEnd}
+use Rattle.rec_pieces.specs.ToldPackets.{IsSpelled}
+use Rattle.rec_whole.proofs.ReadPieces.{end_counted, seen}
 use Rattle.rec_whole.proofs.FilesReadBack.{held_pieces}
-
--- ---- what is told of a channel
-
--- a frame, a program or an end
-pub data Told : Type 0 where
-  ToldFrame : ReadFrameData → Told
-  ToldProgram : ChannelProgram → Told
-  ToldEnd : ChannelEnd → Told
-
-abbrev pub told_by : Saying → List Told
-told_by (OfFrames frames) = map ToldFrame frames
-told_by (OfProgram program) = ToldProgram program ∷ []
-told_by (OfEnd end) = ToldEnd end ∷ []
-
-abbrev pub told_in : (channel : ℕ) → Option (ℕ × Saying) → List Told
-told_in channel None = []
-told_in channel (Some (named, saying)) = if named == channel then told_by saying else []
-
-abbrev pub told_of : (channel : ℕ) → List PacketData → List Told
-told_of channel packets = flat_map (λ (p : PacketData). told_in channel (saying_of p)) packets
 
 -- what is held says this
 abbrev SaysTold : Held → Told → Type 0
@@ -179,22 +162,36 @@ class_told channel own place counter header (End named offered kept) bytes some 
     (named, has.1))
 class_told channel own place counter header Other bytes some has = tt
 
-packets_tell : (channel at : ℕ) (packets : List PacketData) (bytes rest : List ℕ) → channel ≢ 0 → BeginsPackets at packets bytes rest
+packets_tell : (channel : ℕ) (packets : List PacketData) → channel ≢ 0 → AllByRecursion IsSpelled packets
     → AllZip SaysTold (held_in_packets channel packets) (told_of channel packets)
-packets_tell channel at [] bytes rest some begins = tt
-packets_tell channel at (p ∷ ps) bytes rest some begins =
+packets_tell channel [] some spelled = tt
+packets_tell channel (p ∷ ps) some spelled =
     subst (λ hs. AllZip SaysTold hs (told_of channel (p ∷ ps))) (sym (flat_map-append held_in (pieces_of_packet channel p) (pieces_of_channel channel ps)))
     (zip_append (flat_map held_in (pieces_of_packet channel p)) (held_in_packets channel ps) (told_in channel (saying_of p)) (told_of channel ps)
-    (class_told channel p.header.channel p.at p.header.counter p.header p.what (data_in p.header p.body) some begins.1.spelled.holds.class)
-    (packets_tell channel (at + p.header.packet_len) ps begins.0 rest some begins.2))
+    (class_told channel p.header.channel p.at p.header.counter p.header p.what (data_in p.header p.body) some spelled.0.1.holds.class)
+    (packets_tell channel ps some spelled.1))
+
+-- counters say nothing
+says_seen : (hides : Bool) (h : Held) (t : Told) → SaysTold h t → SaysTold (seen hides h) t
+says_seen hides (HeldFrame frame) t says = says
+says_seen hides (HeldRecord counter body) (ToldFrame other) says = says
+says_seen hides (HeldRecord counter body) (ToldProgram program) says = says
+says_seen hides (HeldRecord counter body) (ToldEnd end) says = says
+
+zip_seen : (hides : Bool) (hs : List Held) (ts : List Told) → AllZip SaysTold hs ts → AllZip SaysTold (map (seen hides) hs) ts
+zip_seen hides [] [] says = tt
+zip_seen hides [] (t ∷ ts) says = absurd says
+zip_seen hides (h ∷ hs) [] says = absurd says
+zip_seen hides (h ∷ hs) (t ∷ ts) says = (says_seen hides h t says.0, zip_seen hides hs ts says.1)
 
 -- packets that hold the same of a channel say the same of it
-pub same_told : (channel : ℕ) (ps qs : List PacketData) (bytes others rest more : List ℕ) → channel ≢ 0 → BeginsPackets 0 ps bytes rest
-    → BeginsPackets 0 qs others more → held_in_packets channel qs ≡ held_in_packets channel ps → told_of channel qs ≡ told_of channel ps
-same_told channel ps qs bytes others rest more some a b same =
-    all_told (held_in_packets channel ps) (told_of channel qs) (told_of channel ps)
-    (subst (λ hs. AllZip SaysTold hs (told_of channel qs)) same (packets_tell channel 0 qs others more some b))
-    (packets_tell channel 0 ps bytes rest some a)
+pub same_told : (hides : Bool) (channel : ℕ) (ps qs : List PacketData) → channel ≢ 0 → AllByRecursion IsSpelled ps → AllByRecursion IsSpelled qs
+    → map (seen hides) (held_in_packets channel qs) ≡ map (seen hides) (held_in_packets channel ps) → told_of channel qs ≡ told_of channel ps
+same_told hides channel ps qs some a b same =
+    all_told (map (seen hides) (held_in_packets channel ps)) (told_of channel qs) (told_of channel ps)
+    (subst (λ hs. AllZip SaysTold hs (told_of channel qs)) same
+    (zip_seen hides (held_in_packets channel qs) (told_of channel qs) (packets_tell channel qs some b)))
+    (zip_seen hides (held_in_packets channel ps) (told_of channel ps) (packets_tell channel ps some a))
 
 -- ---- programs, ends and frames of what is told
 

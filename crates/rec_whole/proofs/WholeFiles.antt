@@ -17,7 +17,7 @@ use Rattle.ch11_merge.specs.declared.source.PieceFault.{PieceFault}
 use Rattle.ch11_merge.specs.declared.source.PieceFault.TheVariants.{Device, Memory}
 use Rattle.ch11_file.specs.FileEnds.{FileFails, HasNoGap, HoldsFile, HoldsFront, HoldsUpTo}
 use Rattle.rec_reader.specs.Packets.{PacketData}
-use Rattle.rec_reader.specs.Reading.{Reads}
+use Rattle.rec_pieces.specs.Entries.{AreThere, PacketPlaces}
 use Rattle.rec_pieces.specs.AllSources.{left_of}
 use Rattle.rec_pieces.specs.Listings.{other_of}
 use Rattle.rec_pieces.specs.PieceListings.{ListsPackets, listed_channels, named_channels}
@@ -35,29 +35,29 @@ use Rattle.rec_whole.specs.WholeRecordings.{EndsEarly, IsSetupOf, OfFile, WholeF
 
 -- ---- what is left of the channels of a listing
 
-same_at : (bytes : List ℕ) (packets : List PacketData) (listing : PieceListing) → Reads bytes packets None → ListsPackets packets listing
-    → (channel : ℕ) → left_of bytes listing channel ≡ channel_of_packets packets channel
-same_at bytes packets listing reads had channel =
-    ap (λ entries. channel_with channel (pieces_to_come entries 0 bytes)) (had.entries channel)
-    ∙ ap (channel_with channel) (placed_pieces bytes packets reads channel)
+same_at : (places : PacketPlaces) (packets : List PacketData) (listing : PieceListing) → AreThere places packets → ListsPackets packets listing
+    → (channel : ℕ) → left_of places listing channel ≡ channel_of_packets packets channel
+same_at places packets listing read had channel =
+    ap (λ entries. channel_with channel (pieces_to_come entries 0 places)) (had.entries channel)
+    ∙ ap (channel_with channel) (placed_pieces places packets read channel)
 
 same_all : (f g : ℕ → ChannelLeft) → ((n : ℕ) → f n ≡ g n) → (xs : List ℕ) → map f xs ≡ map g xs
 same_all f g same [] = refl
 same_all f g same (x ∷ xs) = ap (λ c. c ∷ map f xs) (same x) ∙ ap (λ l. g x ∷ l) (same_all f g same xs)
 
-pub left_of_packets : (bytes : List ℕ) (packets : List PacketData) (listing : PieceListing) → Reads bytes packets None
-    → ListsPackets packets listing → map (left_of bytes listing) (listed_channels listing) ≡ channels_of_packets packets
-left_of_packets bytes packets listing reads had =
-    ap (map (left_of bytes listing)) (listed_are_named packets listing had)
-    ∙ same_all (left_of bytes listing) (channel_of_packets packets) (same_at bytes packets listing reads had) (named_channels packets)
+pub left_of_packets : (places : PacketPlaces) (packets : List PacketData) (listing : PieceListing) → AreThere places packets
+    → ListsPackets packets listing → map (left_of places listing) (listed_channels listing) ≡ channels_of_packets packets
+left_of_packets places packets listing read had =
+    ap (map (left_of places listing)) (listed_are_named packets listing had)
+    ∙ same_all (left_of places listing) (channel_of_packets packets) (same_at places packets listing read had) (named_channels packets)
 
 -- what sources say of a listing holds of its packets
-pub said_of_packets : (held : Option (List ℕ)) (recording : List ℕ) (packets : List PacketData) (listing : PieceListing)
-    (Say : List ChannelLeft → Type 0) → held ≡ Some recording → Reads recording packets None → ListsPackets packets listing
-    → IfSome held (λ bytes. Say (map (left_of bytes listing) (listed_channels listing))) → Say (channels_of_packets packets)
-said_of_packets held recording packets listing Say is reads had say =
-    subst Say (left_of_packets recording packets listing reads had)
-    (subst (λ h. IfSome h (λ bytes. Say (map (left_of bytes listing) (listed_channels listing)))) is say)
+pub said_of_packets : (known : Option PacketPlaces) (places : PacketPlaces) (packets : List PacketData) (listing : PieceListing)
+    (Say : List ChannelLeft → Type 0) → known ≡ Some places → AreThere places packets → ListsPackets packets listing
+    → IfSome known (λ places. Say (map (left_of places listing) (listed_channels listing))) → Say (channels_of_packets packets)
+said_of_packets known places packets listing Say is read had say =
+    subst Say (left_of_packets places packets listing read had)
+    (subst (λ k. IfSome k (λ places. Say (map (left_of places listing) (listed_channels listing)))) is say)
 
 -- ---- ends
 

@@ -8,6 +8,7 @@ use Rattle.rec_reader.specs.ChannelFrames.{channel_frames}
 use Rattle.rec_reader.specs.Channels.{ends_of, programs_of}
 use Rattle.rec_reader.specs.Audits.{Audits}
 use Rattle.rec_whole.specs.WholeFrames.{held_in_packets}
+use Rattle.rec_whole.specs.ToldOfChannels.{told_of}
 
 -- the packets that are found have of each channel what a recording's have, in order: frames and records
 -- beside each other; and so the frames, the programs and the ends of each channel from 1 on
@@ -18,6 +19,10 @@ pub record HaveSameChannels (packets found : List PacketData) : Type 0 where
   pub programs : (channel : ℕ) → channel ≢ 0
       → programs_of channel found ≡ programs_of channel packets
   pub ends : (channel : ℕ) → channel ≢ 0 → ends_of channel found ≡ ends_of channel packets
+
+-- they tell of each channel from 1 on what these tell, in order: frames, programs and ends beside each other
+abbrev pub TellTheSame : (told found : List PacketData) → Type 0
+TellTheSame told found = (channel : ℕ) → channel ≢ 0 → told_of channel found ≡ told_of channel told
 
 -- the audit of the packets answers no fault, unless memory ran out
 abbrev pub HasNoFault : List PacketData → Type 0

@@ -18,7 +18,8 @@ ghost use Rattle.rec_reader.specs.Reading.{Reads};
 ghost use Rattle.rec_reader.specs.ChannelFrames.{channel_frames};
 ghost use Rattle.rec_pieces.specs.Entries.{pieces_of_channel};
 ghost use Rattle.rec_pieces.specs.PieceListings.{is_named};
-ghost use Rattle.rec_whole.specs.FilesFound.{AreApprovedAs, HasNoFault, HaveSameChannels};
+ghost use Rattle.rec_pieces.specs.ToldPackets.{AreListedAs};
+ghost use Rattle.rec_whole.specs.FilesFound.{AreApprovedAs, HasNoFault, HaveSameChannels, TellTheSame};
 ghost use Rattle.rec_whole.specs.WholeFrames.{HasShortFrames, file_frames, held_in_packets};
 ghost use Rattle.rec_whole.specs.WholeRecordings.{facts_with};
 
@@ -97,6 +98,33 @@ pub fn a_whole_file_is_read_back()
         → IsWholeFile (facts_with packets rules most setup) blocks → other_of packets ≡ None
         → (found : List PacketData) → Reads (file_bytes blocks) found None
         → (channel : ℕ) → channel_frames channel found ≡ channel_frames channel packets }
+{
+    bytes_have_one_reading();
+}
+
+/// Law: the same of packets of which an end may be listed as one that was offered no frame: what is read of their
+/// whole file tells of each channel what they tell, in order and once each, its frames, its programs and its ends
+/// beside each other, and the audit answers the same of it.
+pub fn a_whole_file_is_read_as_it_is_told()
+    ensures read { (told packets : List PacketData) (rules : List Origin) (most : ℕ) (setup : FileSetup)
+        (blocks : List FileBlock) → AreListedAs told packets → IsWholeFile (facts_with packets rules most setup) blocks
+        → (found : List PacketData) × Reads (file_bytes blocks) found None }
+    ensures same { (told packets : List PacketData) (rules : List Origin) (most : ℕ) (setup : FileSetup)
+        (blocks : List FileBlock) → AreListedAs told packets → IsWholeFile (facts_with packets rules most setup) blocks
+        → (found : List PacketData) (fault : Option ReadFaultKind) → Reads (file_bytes blocks) found fault
+        → (fault ≡ None) × TellTheSame told found }
+    ensures approved { (told packets : List PacketData) (rules : List Origin) (most : ℕ) (setup : FileSetup)
+        (blocks : List FileBlock) → AreListedAs told packets → IsWholeFile (facts_with packets rules most setup) blocks
+        → other_of packets ≡ None → (found : List PacketData) → Reads (file_bytes blocks) found None
+        → (audit : Audit) → Audits told (Ok audit) → AreApprovedAs found audit }
+    ensures no_fault { (told packets : List PacketData) (rules : List Origin) (most : ℕ) (setup : FileSetup)
+        (blocks : List FileBlock) → AreListedAs told packets → IsWholeFile (facts_with packets rules most setup) blocks
+        → other_of packets ≡ None → (found : List PacketData) → Reads (file_bytes blocks) found None
+        → HasNoFault told → HasNoFault found }
+    ensures all { (told packets : List PacketData) (rules : List Origin) (most : ℕ) (setup : FileSetup)
+        (blocks : List FileBlock) → AreListedAs told packets → IsWholeFile (facts_with packets rules most setup) blocks
+        → other_of packets ≡ None → (found : List PacketData) → Reads (file_bytes blocks) found None
+        → (channel : ℕ) → channel_frames channel found ≡ channel_frames channel told }
 {
     bytes_have_one_reading();
 }

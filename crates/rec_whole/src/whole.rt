@@ -1,9 +1,9 @@
 //! A whole file of a recording, into an output.
 
-ghost use Rattle.std.specs.Prelude.{ℕ, ◌≡◌, ◌<◌, ◌≤◌, ◌^◌, List, None, Some, MatchResult, length};
+ghost use Rattle.std.specs.Prelude.{ℕ, ◌≡◌, ◌<◌, ◌≤◌, ◌^◌, List, Some, MatchResult, length};
 ghost use Rattle.std.specs.Option.{unwrap_or};
 ghost use Rattle.rec_reader.specs.Packets.{PacketData};
-ghost use Rattle.rec_reader.specs.Reading.{Reads};
+ghost use Rattle.rec_pieces.specs.Entries.{AreThere, PacketPlaces};
 ghost use Rattle.rec_pieces.specs.PieceListings.{ListsPackets};
 ghost use Rattle.ch11_index.specs.declared.index.TheConstants.{MOST_NAMED};
 ghost use Rattle.ch11_file.specs.FileEnds.{HoldsFile};
@@ -15,21 +15,21 @@ use crate::refusal::{WholeEnd, WholeRefusal};
 use ch11_clock::Clock;
 use ch11_file::{FileCounts, FileSetup, write_file};
 use ch11_setup::SetupChannel;
-use rec_pieces::{PieceListing, PlacedRead, channel_sources};
+use rec_pieces::{PacketsAt, PieceListing, channel_sources};
 use std::alloc::Global;
 use std::io::Write;
 
 /// How many counters a header or a frame can have.
 const COUNTERS: u64 = 0x1_0000_0000_0000;
 
-/// Writes the whole file of a recording that was listed, with an index of at most `most` entries a packet.
+/// Writes the whole file of a recording's packets that were listed, with an index of at most `most` entries a packet.
 ///
 /// # Errors
 ///
 /// [`WholeEnd`]. Of a recording that is refused nothing, or the packets ahead of the fault, went out.
-pub fn write_whole_file<F: PlacedRead, W: Write>(
+pub fn write_whole_file<P: PacketsAt, W: Write>(
     alloc: Global,
-    file: &F,
+    packets: &P,
     listing: &PieceListing,
     names: &FileNames<'_>,
     clock: &Clock,
@@ -38,11 +38,11 @@ pub fn write_whole_file<F: PlacedRead, W: Write>(
 ) -> Result<FileCounts, WholeEnd>
     requires some { 0 < most }
     requires few { most ≤ MOST_NAMED }
-    ensures { (recording : List ℕ) (packets : List PacketData) → F.held file.now ≡ Some recording
-        → Reads recording packets None → ListsPackets packets listing.now
+    ensures { (places : PacketPlaces) (held : List PacketData) → P.there packets.now ≡ Some places
+        → AreThere places held → ListsPackets held listing.now
         → MatchResult result
-        (WritesRecording packets names.now clock.now most (W.contents out.old) (W.contents out.new))
-        (WholeFails packets names.now clock.now most (W.contents out.old) (W.contents out.new)) }
+        (WritesRecording held names.now clock.now most (W.contents out.old) (W.contents out.new))
+        (WholeFails held names.now clock.now most (W.contents out.old) (W.contents out.new)) }
 {
     if let Some(at) = listing.other() {
         return Err(WholeEnd::Refused(WholeRefusal::Other { at }));
@@ -53,7 +53,7 @@ pub fn write_whole_file<F: PlacedRead, W: Write>(
     let ids = listing.channels(alloc)?;
     let channels = setup_channels(alloc, &ids, names.channels)?;
     let setup = file_setup(names, time_channel, channels.as_slice(), true);
-    write_with_setup(alloc, file, listing, &setup, clock, most, out)
+    write_with_setup(alloc, packets, listing, &setup, clock, most, out)
 }
 
 /// What the setup record says of a recording with these channels, with an index or without.
@@ -87,9 +87,9 @@ fn least_counter(listing: &PieceListing) -> u64
 }
 
 /// Writes the whole file with this setup record.
-fn write_with_setup<F: PlacedRead, W: Write>(
+fn write_with_setup<P: PacketsAt, W: Write>(
     alloc: Global,
-    file: &F,
+    packets: &P,
     listing: &PieceListing,
     setup: &FileSetup<'_>,
     clock: &Clock,
@@ -99,18 +99,18 @@ fn write_with_setup<F: PlacedRead, W: Write>(
     requires some { 0 < most }
     requires few { most ≤ MOST_NAMED }
     requires number { length setup.now.channels.now < 2 ^ 16 }
-    ensures { (recording : List ℕ) (packets : List PacketData) → F.held file.now ≡ Some recording
-        → Reads recording packets None → ListsPackets packets listing.now
+    ensures { (places : PacketPlaces) (held : List PacketData) → P.there packets.now ≡ Some places
+        → AreThere places held → ListsPackets held listing.now
         → MatchResult result
-        (HoldsFile (facts_with packets clock.now most setup.now) (W.contents out.old) (W.contents out.new))
-        (EndsEarly (facts_with packets clock.now most setup.now) (W.contents out.old) (W.contents out.new)) }
+        (HoldsFile (facts_with held clock.now most setup.now) (W.contents out.old) (W.contents out.new))
+        (EndsEarly (facts_with held clock.now most setup.now) (W.contents out.old) (W.contents out.new)) }
 {
     let least = least_counter(listing);
     // No packet that is read has such a counter.
     if least >= COUNTERS {
         return Err(WholeEnd::Recording);
     }
-    let mut sources = channel_sources(alloc, file, listing)?;
+    let mut sources = channel_sources(alloc, packets, listing)?;
     match write_file(alloc, &mut sources, setup, clock, least, most, out) {
         Ok(counts) => Ok(counts),
         Err(end) => Err(WholeEnd::from(end)),

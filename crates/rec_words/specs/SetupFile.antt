@@ -356,6 +356,13 @@ file_by count unknown members (Some found) = do
   general ← general_in members
   Ok (record { recordings = recordings; general = general })
 
+-- whether a table, and a text, has tables of recordings
+abbrev pub has_tables : Members → Bool
+has_tables members = not (is_none (get_member (codes "recording") members))
+
+abbrev pub says_tables : List ℕ → Bool
+says_tables text = unwrap_or (option_map has_tables (parse_document text)) false
+
 -- what is said in a table
 abbrev pub file_in : (count : ℕ) → Members → Result FileData Fault
 file_in count members = do

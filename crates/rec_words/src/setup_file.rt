@@ -25,6 +25,8 @@ pub struct FileSettings {
     pub recordings: Vec<RecordingSettings>,
     /// What is said of the whole file.
     pub general: GeneralSettings,
+    /// Whether the document has the key `recording`, so that the places of recordings are of interest to its writer.
+    pub has_tables: bool,
 }
 
 /// What is said of a recording.

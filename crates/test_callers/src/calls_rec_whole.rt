@@ -2,14 +2,14 @@
 
 use ch11_clock::Clock;
 use ch11_index::MOST_NAMED;
-use rec_pieces::{PieceListing, PlacedRead};
+use rec_pieces::{PacketsAt, PieceListing};
 use rec_whole::{FileNames, WholeEnd, write_whole_file};
 use std::alloc::Global;
 
 /// The whole file of a recording, in memory, whose channels have no names.
-pub fn whole_file_of<F: PlacedRead>(
+pub fn whole_file_of<P: PacketsAt>(
     alloc: Global,
-    file: &F,
+    packets: &P,
     listing: &PieceListing,
     clock: &Clock,
 ) -> Result<Vec<u8>, WholeEnd> {
@@ -21,6 +21,8 @@ pub fn whole_file_of<F: PlacedRead>(
         attributes: &[],
     };
     let mut bytes = Vec::new(alloc);
-    write_whole_file(alloc, file, listing, &names, clock, MOST_NAMED, &mut bytes)?;
+    write_whole_file(
+        alloc, packets, listing, &names, clock, MOST_NAMED, &mut bytes,
+    )?;
     Ok(bytes)
 }

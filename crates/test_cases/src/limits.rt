@@ -14,7 +14,7 @@ use rec_cli::settings_of;
 use std::io;
 use std::io::ErrorKind;
 
-/// The constants, with the names that they have in `host/bpfrec_host/formats/limits.py`.
+/// The constants, with the names that they have in `host/bpfrec/formats/limits.py`.
 static LIMITS: [(&str, u64); 25] = [
     ("COUNTER_BITS", COUNTER_BITS as u64),
     ("COUNTER_LEN", COUNTER_LEN as u64),

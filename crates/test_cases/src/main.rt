@@ -33,7 +33,7 @@ use std::{fs, io};
 use texts::{FILTERS, TEXTS, TextCase};
 use upgrades::{UPGRADES, UpgradeCase};
 use values::show_values;
-use wholes::{WHOLES, WholeCase};
+use wholes::{JOINED, WHOLES, WholeCase};
 
 /// The number of packets of a long recording, of 52 bytes each.
 const LONG: u64 = 40_000;
@@ -146,6 +146,10 @@ where
     for case in &WHOLES {
         show_whole(rt, case)?;
     }
+    for words in JOINED {
+        show_run(rt, words, NOTHING)?;
+    }
+    show_file(rt, "file", "joined")?;
     Ok(())
 }
 

@@ -1,9 +1,12 @@
 //! The tests of the program, by its public calls: runs without words, the settings of recordings, calls
-//! of files that a signal interrupts, how lines go out, and the limits in help.
+//! of files that a signal interrupts, how lines go out, how refusals of several recordings are printed, and the limits in
+//! help.
 #![tactic(auto)]
 
 #[cfg(test)]
 mod command_line;
+#[cfg(test)]
+mod endings;
 #[cfg(test)]
 mod help;
 #[cfg(test)]

@@ -465,6 +465,15 @@ fn one_recording_is_the_same_in_either_form(rt: HostRuntime) -> Result<(), Fail>
     Ok(())
 }
 
+#[test]
+fn a_setup_tells_whether_it_has_tables_of_recordings(rt: HostRuntime) -> Result<(), Fail> {
+    let top = setup_of(rt.alloc(), "origin = \"5\"", 1)?;
+    assert_same!(rt; top.has_tables, false);
+    let tabled = setup_of(rt.alloc(), "recording = [{origin = \"5\"}]", 1)?;
+    assert_same!(rt; tabled.has_tables, true);
+    Ok(())
+}
+
 /// What a text says of so many recordings, one behind the other, or the text's first fault, on a line.
 fn printed_recordings(alloc: Global, text: &str, recordings: usize) -> Result<String, Fail> {
     let setup = match setup_of(alloc, text, recordings) {

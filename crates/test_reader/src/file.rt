@@ -109,7 +109,8 @@ fn file_of(
     let Ok(listing) = list_recording(alloc, &mut reader) else {
         return Err("a recording".into());
     };
-    let mut sources = channel_sources(alloc, &recording, &listing)?;
+    let packets = FilePackets::new(&recording);
+    let mut sources = channel_sources(alloc, &packets, &listing)?;
     let channels = channels_of(alloc, &listing)?;
     let setup = setup_of(channels.as_slice());
     let least = listing.least().unwrap_or(0);

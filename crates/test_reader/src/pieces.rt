@@ -63,7 +63,8 @@ fn pieces_of<F: PlacedRead>(
     entries: &[PieceEntry],
 ) -> Result<(Vec<OwnedPiece>, Option<PieceFault>), Fail> {
     let mut pieces = Vec::new(alloc);
-    let mut source = match ChannelPieces::new(alloc, file, entries) {
+    let packets = FilePackets::new(file);
+    let mut source = match ChannelPieces::new(alloc, &packets, entries) {
         Ok(source) => source,
         Err(fault) => return Ok((pieces, Some(fault))),
     };

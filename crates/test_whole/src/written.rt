@@ -5,7 +5,7 @@ ghost use Rattle.ch11_index.specs.declared.index.TheConstants.{MOST_NAMED};
 ghost use Rattle.test_whole.specs.WholeFileOf.{IsWholeFileOf};
 
 use ch11_clock::Clock;
-use rec_pieces::list_recording;
+use rec_pieces::{FilePackets, list_recording, packets_are_read_at_their_places};
 use rec_reader::Reader;
 use rec_whole::{FileNames, WholeEnd, a_whole_file_is_read_back, write_whole_file};
 use std::alloc::Global;
@@ -27,12 +27,14 @@ pub fn whole_file_of(
     ensures { IfOk result (λ file. IsWholeFileOf recording.now names.now clock.now most file.items) }
 {
     a_whole_file_is_read_back();
+    packets_are_read_at_their_places();
     let mut reader = Reader::new(alloc, recording);
     let Ok(listing) = list_recording(alloc, &mut reader) else {
         return Err(WholeEnd::Recording);
     };
     let mut file = Vec::new(alloc);
-    match write_whole_file(alloc, &recording, &listing, names, clock, most, &mut file) {
+    let packets = FilePackets::new(&recording);
+    match write_whole_file(alloc, &packets, &listing, names, clock, most, &mut file) {
         Ok(_counts) => Ok(file),
         Err(end) => Err(end),
     }

@@ -3,7 +3,7 @@
 import hashlib
 from pathlib import Path
 
-from bpfrec_host.streams import Refused
+from bpfrec_tools.cli.streams import Refused
 from conversion import pcap
 from conversion.pcapng import Blocks, begins_pcapng
 from conversion.streams import Input

@@ -2,8 +2,11 @@
 
 from typing import NamedTuple
 
+from bpfrec.formats.body import Frames
+from bpfrec.formats.packet import Packet
+from bpfrec.formats.records import Program
 from pcapng import interface, option, packet, section
-from reading import ch11, packets_of
+from reading import packets_of
 from rows import Held, frames_in
 
 INSN_LEN = 8
@@ -62,12 +65,12 @@ class Export:
     def bytes(self) -> bytes:
         return b"".join(self.parts)
 
-    def take(self, given: ch11.Packet) -> None:
-        if isinstance(given.what, ch11.Program):
+    def take(self, given: Packet) -> None:
+        if isinstance(given.what, Program):
             version = Version(given.what.version, len(given.what.insns) // INSN_LEN)
             if not self.describe(given.what.channel, text_of([version])):
                 self.later.setdefault(given.what.channel, []).append(version)
-        elif isinstance(given.what, ch11.Frames):
+        elif isinstance(given.what, Frames):
             self.describe(given.header.channel)
             for frame in frames_in(given):
                 self.show(given.header.channel, frame)

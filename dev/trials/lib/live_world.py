@@ -9,10 +9,10 @@ import functools
 from collections.abc import Callable
 from typing import Any
 
-from bpfrec_host.live.machine import Machine
-from bpfrec_host.live.model import Phase, Plan, Recording
-from bpfrec_host.live.ports import Deed, Ports
-from bpfrec_host.live.table import Event, State
+from bpfrec_tools.live.model import Phase, Plan, Recording
+from bpfrec_tools.live.run.machine import Machine
+from bpfrec_tools.live.run.ports import Deed, Ports
+from bpfrec_tools.live.run.table import Event, State
 
 NAMES = ("capture", "bpfrec")
 KILLED = 137

@@ -7,8 +7,8 @@ OBSERVED = f"""
 import json, sys
 sys.dont_write_bytecode = True
 sys.path.insert(0, {str(ROOT / "host")!r})
-from bpfrec_host.ending import guarded
-from bpfrec_host.live import command
+from bpfrec_tools.cli.ending import guarded
+from bpfrec_tools.live import command
 
 class Noting:
     def __init__(self, path):

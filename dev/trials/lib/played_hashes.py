@@ -10,10 +10,10 @@ from pathlib import Path
 from types import SimpleNamespace
 from typing import Any, Optional, cast
 
-from bpfrec_host.live.hashes import Ended, File, Hashes, Job
-from bpfrec_host.live.loop import Loop
-from bpfrec_host.live.names import Files
-from bpfrec_host.live.signer import Signer
+from bpfrec_tools.live.kept.hashes import Ended, File, Hashes, Job
+from bpfrec_tools.live.kept.names import Files
+from bpfrec_tools.live.kept.signer import Signer
+from bpfrec_tools.live.parts.loop import Loop
 from support import wait_for
 
 FACTS = {"facts": 1, "sha256": None, "bytes": None, "before": None}

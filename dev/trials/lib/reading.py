@@ -15,17 +15,18 @@ from recorder import RECORDINGS, record, write_settings
 from support import CONVERT, ROOT, judge_quietly, run
 
 sys.path.insert(0, str(ROOT / "host"))
-from bpfrec_host import salvage
-from bpfrec_host.formats import ch11
-from bpfrec_host.formats.ch11.sums import BlockSums
-from bpfrec_host.info import as_json
-from bpfrec_host.info.contents import read
-from bpfrec_host.info.facts_file import time_of
-from bpfrec_host.info.page import page_parts
-from bpfrec_host.info.text import text_parts
-from bpfrec_host.program import audit_of
+from bpfrec.formats.packet import Packet
+from bpfrec.formats.reader import reader_of
+from bpfrec.formats.search import BlockSums
+from bpfrec_tools.cli.program import audit_of
+from bpfrec_tools.info import as_json
+from bpfrec_tools.info.contents import read
+from bpfrec_tools.info.facts_file import time_of
+from bpfrec_tools.info.page import page_parts
+from bpfrec_tools.info.text import text_parts
+from bpfrec_tools.salvage import command as salvage
 
-__all__ = ["BlockSums", "as_json", "audit_of", "ch11", "page_parts", "read", "salvage", "text_parts", "time_of"]
+__all__ = ["BlockSums", "as_json", "audit_of", "page_parts", "read", "salvage", "text_parts", "time_of"]
 # The same recording without data checksums and with them.
 SAMPLES = [RECORDINGS / it for it in ("two_versions.ch11", "two_versions_checked.ch11")]
 SEED = 1
@@ -53,11 +54,11 @@ def salvaged(data: bytes) -> tuple[bytes, str]:
         return out.read(), told.getvalue()
 
 
-def packets_of(data: bytes) -> list[ch11.Packet]:
+def packets_of(data: bytes) -> list[Packet]:
     with tempfile.TemporaryFile() as file:
         file.write(data)
         file.seek(0)
-        return [it for it in ch11.Reader(cast(BinaryIO, file)).pieces() if isinstance(it, ch11.Packet)]
+        return [it for it in reader_of(cast(BinaryIO, file)).pieces() if isinstance(it, Packet)]
 
 
 # ---- recordings

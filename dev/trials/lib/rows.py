@@ -11,8 +11,11 @@ from collections.abc import Callable
 from pathlib import Path
 from typing import Any, NamedTuple
 
+from bpfrec.formats.body import Frames
+from bpfrec.formats.packet import Damage, Packet
+from bpfrec.formats.reader import reader_of
+from bpfrec.formats.records import End, Program
 from frames import COMPUTER, FRAMES, body_of, end_packet, packet_of, program_packet
-from reading import ch11
 from support import BPFREC, ROOT, SECONDS, judge_quietly, outcome, run
 
 PLUGIN = ROOT / "bin/bpfrec.lua"
@@ -83,7 +86,7 @@ def rows_of(work: Path, recording: Path, *words: object, **more: Any) -> list[di
 # ---- what rows there should be
 
 
-def frames_in(packet: ch11.Packet) -> list[Held]:
+def frames_in(packet: Packet) -> list[Held]:
     """The frames of a packet, by docs/user/formats/recording.md."""
     found, at = [], 28
     for _ in range(struct.unpack_from("<H", packet.bytes, 24)[0]):
@@ -114,9 +117,9 @@ class Expected:
     def add(self, **told: Any) -> None:
         self.rows.append({name: str(value) for name, value in told.items() if value is not None})
 
-    def take(self, piece: ch11.Packet | ch11.Damage, data: bytes) -> None:
+    def take(self, piece: Packet | Damage, data: bytes) -> None:
         """Takes a packet or a damaged place of a recording of these bytes."""
-        if isinstance(piece, ch11.Damage):
+        if isinstance(piece, Damage):
             begins = data[piece.fault.at : piece.fault.at + min(piece.length, MOST_IN_ROW)]
             length = len(begins)
             self.add(
@@ -126,13 +129,13 @@ class Expected:
                 damaged_length=piece.length,
                 place=piece.fault.at,
             )
-        elif isinstance(piece.what, ch11.Frames) and piece.what.counters:
+        elif isinstance(piece.what, Frames) and piece.what.counters:
             for frame in frames_in(piece):
                 self.take_frame(piece, frame)
         else:
             self.take_packet(piece)
 
-    def take_frame(self, packet: ch11.Packet, frame: Held) -> None:
+    def take_frame(self, packet: Packet, frame: Held) -> None:
         channel, word = packet.header.channel, frame.word
         number = self.counts.get(channel, 0)
         self.counts[channel] = number + 1
@@ -154,7 +157,7 @@ class Expected:
             place=packet.at + frame.at,
         )
 
-    def take_packet(self, packet: ch11.Packet) -> None:
+    def take_packet(self, packet: Packet) -> None:
         header, what = packet.header, packet.what
         shared = {
             "time": self.time_of(header.counter),
@@ -164,11 +167,11 @@ class Expected:
             "place": packet.at,
             "type": f"0x{header.kind:02x}",
         }
-        if isinstance(what, ch11.Program):
+        if isinstance(what, Program):
             self.versions[what.channel] = what.version
             count = len(what.insns) // 8
             self.add(**shared, channel=what.channel, version=what.version, first=what.first, instructions=count)
-        elif isinstance(what, ch11.End):
+        elif isinstance(what, End):
             self.add(**shared, channel=what.channel, offered=what.offered, kept=what.kept)
         else:
             self.add(**shared, channel=header.channel)
@@ -178,7 +181,7 @@ def expected_rows(recording: Path, time_of: Callable[[int], str] = seconds_of) -
     """The rows of a recording, as the reader in Python finds its packets and its damaged places."""
     data, expected = recording.read_bytes(), Expected(time_of)
     with open(recording, "rb") as file:
-        for piece in ch11.Reader(file).pieces():
+        for piece in reader_of(file).pieces():
             expected.take(piece, data)
     return expected.rows
 

@@ -11,10 +11,10 @@ from dataclasses import dataclass
 from pathlib import Path
 from typing import Any
 
-from bpfrec_host.live import status
-from bpfrec_host.live.events import Counted, event_in
-from bpfrec_host.live.ports import Marked
-from bpfrec_host.live.status import (
+from bpfrec_tools.live import status
+from bpfrec_tools.live.parts.events import Counted, event_in
+from bpfrec_tools.live.run.ports import Marked
+from bpfrec_tools.live.status import (
     Counts,
     Setup,
     Status,
@@ -26,11 +26,11 @@ from bpfrec_host.live.status import (
     server,
     table,
 )
-from bpfrec_host.live.status.alarms import Alarm
-from bpfrec_host.live.status.growth import Growth, Kept
-from bpfrec_host.live.status.page import PAGE
-from bpfrec_host.live.status.table import columns_of
-from bpfrec_host.live.status.view import (
+from bpfrec_tools.live.status.alarms import Alarm
+from bpfrec_tools.live.status.growth import Growth, Kept
+from bpfrec_tools.live.status.server import PAGE
+from bpfrec_tools.live.status.table import columns_of
+from bpfrec_tools.live.status.view import (
     HISTORY_SECONDS,
     Audits,
     ChannelView,

@@ -17,18 +17,15 @@ from whole_file import (
     SETUP,
     TIME,
     File,
-    Mark,
     Piece,
     Refused,
     Setup,
-    civil,
     frames_in,
-    marks_of,
+    judge_year,
     pieces_of,
-    rules_of,
-    setup_text,
-    time_body,
+    setup_body,
 )
+from whole_file_clock import Mark, marks_of, rules_of, time_body
 
 # A setup record goes out once more 10 s of ticks behind the last one.
 SETUP_TICKS = 100_000_000
@@ -71,7 +68,9 @@ class Stream:
             self.check(channel, at)
             frames = frames_in(data)
             least = min((it.counter for it in frames), default=None)
-            self.put_pieces(at, least, [Waiting(channel, False, it) for it in pieces_of(at, frames)])
+            self.put_pieces(
+                at, least, [Waiting(channel, False, it) for it in pieces_of(Piece(at, None, tuple(frames)))]
+            )
         elif (kind, channel, data[4:8]) == (COMPUTER, 0, b"CBPR"):
             record_kind, named = struct.unpack_from("<HH", data, 8)
             self.check(named, at)
@@ -106,9 +105,8 @@ class Stream:
         first = next(self.marks, None)
         if first is None:
             raise Refused(4, "Origin", 0)
-        self.check_year(first)
-        text = setup_text(self.setup, self.setup.channels, self.time_channel, first, False)
-        self.text = struct.pack("<I", 0x0C) + text.encode("ascii")
+        judge_year(first)
+        self.text = setup_body(self.setup, self.setup.channels, self.time_channel, first, False)
         self.put_setup(first.tick)
         self.put_time(first)
         self.ahead = next(self.marks, None)
@@ -130,13 +128,9 @@ class Stream:
         self.setup_tick = tick
 
     def put_time(self, mark: Mark) -> None:
-        self.check_year(mark)
+        judge_year(mark)
         body = time_body(mark, self.setup.is_external)
         self.file.write("times", self.time_channel, TIME, mark.tick, body)
-
-    def check_year(self, mark: Mark) -> None:
-        if civil(mark.moment).date is None:
-            raise Refused(5, "Year", 0)
 
     # ---- pieces
 

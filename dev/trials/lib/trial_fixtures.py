@@ -18,7 +18,7 @@ import recorder
 import support
 
 if TYPE_CHECKING:
-    from bpfrec_host.live.loop import Signals
+    from bpfrec_tools.live.parts.loop import Signals
 
 ENDED_BY = 128
 # The folders whose trials take longest.
@@ -166,7 +166,7 @@ def entering() -> Callable[[], contextlib.AbstractContextManager[None]]:
 @pytest.fixture
 def signals() -> Iterator["Signals"]:
     """Those of live, while it lasts."""
-    from bpfrec_host.live.loop import Signals
+    from bpfrec_tools.live.parts.loop import Signals
 
     numbers = (signal.SIGINT, signal.SIGTERM, signal.SIGHUP, signal.SIGCHLD, signal.SIGTTIN, signal.SIGTTOU)
     before = {it: signal.getsignal(it) for it in numbers}

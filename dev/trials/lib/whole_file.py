@@ -6,29 +6,28 @@ files. `whole_file` gives a file's bytes and its counts, or raises `Refused`.
 
 from __future__ import annotations
 
-import datetime
 import struct
-from bisect import bisect_right
 from collections import Counter, deque
-from typing import Collection, Iterator, NamedTuple, Optional
+from typing import Collection, Iterable, Iterator, NamedTuple, Optional
 
 from frames import COMPUTER, FRAMES, body_of, packet_of
+from whole_file_clock import Mark, civil, marks_of, rules_of, time_body
 
 SETUP, TIME, INDEX = 0x01, 0x11, 0x03
-TICK, TEN_MS, SECOND, COUNTERS, CHANNELS = 100, 10_000_000, 1_000_000_000, 1 << 48, 1 << 16
+CHANNELS = 1 << 16
 PIECE_TICKS, MOST_DISORDER, MOST_GAP = 1_000_000, 10_000_000, 6_048_000_000_000
 MOST_PACKET_LENGTH, MOST_NAMED = 524_288, 16_384
-EPOCH = datetime.date(1970, 1, 1).toordinal()
-YEARS = range(1, 4_000)
 # A packet's header, the word of its body and its data checksum.
 AROUND_FRAMES = 24 + 4 + 4
 
 
 class Refused(Exception):
-    """Why a recording has no such file: its number, its name, and the place of a packet."""
+    """Why a recording has no such file: its number, its name, and the place of a packet; `of` is the place of its
+    recording among several."""
 
-    def __init__(self, number: int, name: str, at: int) -> None:
+    def __init__(self, number: int, name: str, at: int, of: int = 0) -> None:
         super().__init__(f"refused {number} {name} {at}")
+        self.at, self.of = at, of
 
 
 class Origin(NamedTuple):
@@ -50,29 +49,6 @@ class Setup(NamedTuple):
     channels: dict[int, tuple[str, int]] = {}
 
 
-class Rule(NamedTuple):
-    """An origin, and the counters that it holds for: from `begin` to below `end`."""
-
-    begin: int
-    end: int
-    nanoseconds: int
-
-    def time(self, counter: int) -> int:
-        return self.nanoseconds + counter * TICK
-
-    def tick(self, moment: int) -> Optional[int]:
-        """The tick of a moment, if it has one here."""
-        found = -((self.nanoseconds - moment) // TICK)
-        return found if self.begin <= found < self.end else None
-
-
-class Mark(NamedTuple):
-    """A time packet: its tick, and the moment that it says."""
-
-    tick: int
-    moment: int
-
-
 class Frame(NamedTuple):
     counter: int
     word: int
@@ -81,12 +57,13 @@ class Frame(NamedTuple):
 
 class Piece(NamedTuple):
     """What becomes one packet, or more where time packets stand between: frames, or a record as it is. `at` is the place
-    of its packet in the recording."""
+    of its packet in the recording, and `of` that of the recording among several."""
 
     at: int
     counter: Optional[int]
     frames: tuple[Frame, ...] = ()
     record: bytes = b""
+    of: int = 0
 
 
 # ---- the recording
@@ -114,16 +91,31 @@ def frames_in(data: bytes) -> list[Frame]:
     return found
 
 
-def pieces_of(at: int, frames: list[Frame]) -> Iterator[Piece]:
-    """The pieces of a packet of frames, but for time packets."""
+def contents_of(recording: bytes, of: int = 0) -> Iterator[tuple[int, Piece]]:
+    """What each packet has, which isn't cut yet, and its channel."""
+    for at, channel, kind, counter, data in packets_in(recording):
+        if kind == FRAMES and channel:
+            yield channel, Piece(at, None, tuple(frames_in(data)), of=of)
+        elif (kind, channel, data[4:8]) == (COMPUTER, 0, b"CBPR"):
+            record_kind, named = struct.unpack_from("<HH", data, 8)
+            is_counted = record_kind == 1 or struct.unpack_from("<Q", data, 12)[0] > 0
+            yield named, Piece(at, counter if is_counted else None, record=data, of=of)
+        else:
+            raise Refused(1, "Other", at, of)
+
+
+def pieces_of(packet: Piece) -> Iterator[Piece]:
+    """The pieces of what a packet has, but for time packets."""
+    if packet.record:
+        yield packet
     piece: list[Frame] = []
-    for frame in frames:
+    for frame in packet.frames:
         if piece and not goes_on(piece, frame):
-            yield Piece(at, piece[0].counter, tuple(piece))
+            yield packet._replace(counter=piece[0].counter, frames=tuple(piece))
             piece = []
         piece.append(frame)
     if piece:
-        yield Piece(at, piece[0].counter, tuple(piece))
+        yield packet._replace(counter=piece[0].counter, frames=tuple(piece))
 
 
 def goes_on(piece: list[Frame], frame: Frame) -> bool:
@@ -138,23 +130,12 @@ def goes_on(piece: list[Frame], frame: Frame) -> bool:
 class Recording:
     """What a recording has of each channel that it names, in order, and its least counter."""
 
-    def __init__(self, recording: bytes) -> None:
+    def __init__(self, contents: Iterable[tuple[int, Piece]]) -> None:
         self.channels: dict[int, deque[Piece]] = {}
-        counters = []
-        for at, channel, kind, counter, data in packets_in(recording):
-            if kind == FRAMES and channel:
-                frames = frames_in(data)
-                self.channels.setdefault(channel, deque()).extend(pieces_of(at, frames))
-                counters += [it.counter for it in frames]
-            elif (kind, channel, data[4:8]) == (COMPUTER, 0, b"CBPR"):
-                record_kind, named = struct.unpack_from("<HH", data, 8)
-                is_counted = record_kind == 1 or struct.unpack_from("<Q", data, 12)[0] > 0
-                counters += [counter] if is_counted else []
-                piece = Piece(at, counter if is_counted else None, record=data)
-                self.channels.setdefault(named, deque()).append(piece)
-            else:
-                raise Refused(1, "Other", at)
-        self.least = min(counters, default=0)
+        for channel, packet in contents:
+            self.channels.setdefault(channel, deque()).extend(pieces_of(packet))
+        pieces = (piece for pieces in self.channels.values() for piece in pieces)
+        self.least = min((it.counter for it in pieces if it.counter is not None), default=0)
         self.time_channel = next((it for it in range(1, CHANNELS) if it not in self.channels), 0)
         if not self.time_channel:
             raise Refused(7, "Full", 0)
@@ -168,72 +149,6 @@ class Recording:
         return number, self.channels[number].popleft()
 
 
-# ---- the clock
-
-
-def rules_of(origins: tuple[Origin, ...]) -> list[Rule]:
-    """The origins that hold for some counter, each with those counters."""
-    held: list[tuple[int, int]] = []
-    for number, origin in enumerate(origins):
-        begin = origin.counter if number else 0
-        held = [it for it in held if it[0] < begin] + [(begin, origin.nanoseconds)]
-    ends = [begin for begin, _ in held[1:]] + [COUNTERS]
-    return [Rule(begin, end, origin) for (begin, origin), end in zip(held, ends)]
-
-
-def marks_of(rules: list[Rule], least: int) -> Iterator[Mark]:
-    """The time packets of a recording whose least counter this is, as many as one asks for."""
-    at = bisect_right([it.begin for it in rules], least) - 1
-    before = rules[at].time(least) // TEN_MS * TEN_MS
-    yield from marks_under(rules[at], [before, before + TEN_MS])
-    for rule in rules[at + 1 :]:
-        yield from marks_under(rule, [-(-rule.time(rule.begin) // TEN_MS) * TEN_MS])
-
-
-def marks_under(rule: Rule, firsts: list[int]) -> Iterator[Mark]:
-    """The first of these moments that has a tick under an origin, and each whole second after it that has one."""
-    first = next((it for it in firsts if rule.tick(it) is not None), None)
-    moment = first
-    while moment is not None and (tick := rule.tick(moment)) is not None:
-        yield Mark(tick, moment)
-        moment = (moment // SECOND + 1) * SECOND
-
-
-class Civil(NamedTuple):
-    """A moment's date, and its hundredths of a second since midnight."""
-
-    date: Optional[datetime.date]
-    hundredths: int
-
-    def date_text(self) -> str:
-        assert self.date
-        return f"{self.date.month:02}-{self.date.day:02}-{self.date.year:04}"
-
-    def clock(self) -> tuple[int, int, int, int]:
-        """Hours, minutes, seconds and hundredths."""
-        seconds, hundredths = divmod(self.hundredths, 100)
-        return seconds // 3_600, seconds // 60 % 60, seconds % 60, hundredths
-
-
-def civil(moment: int) -> Civil:
-    days, hundredths = divmod(moment // TEN_MS, 8_640_000)
-    ordinal = EPOCH + days
-    is_known = 1 <= ordinal <= datetime.date(YEARS[-1], 12, 31).toordinal()
-    return Civil(datetime.date.fromordinal(ordinal) if is_known else None, hundredths)
-
-
-def time_body(mark: Mark, is_external: bool) -> bytes:
-    """The data of a time packet."""
-    said = civil(mark.moment)
-    assert said.date
-    year = said.date.year
-    is_leap = year % 4 == 0 and (year % 100 != 0 or year % 400 == 0)
-    hour, minute, second, hundredths = said.clock()
-    word = is_external | 3 << 4 | is_leap << 8 | 1 << 9
-    digits = [f"{second:02}{hundredths:02}", f"{hour:02}{minute:02}", f"{said.date.month:02}{said.date.day:02}"]
-    return struct.pack("<I4H", word, *(int(it, 16) for it in [*digits, f"{year:04}"]))
-
-
 # ---- the setup record
 
 
@@ -243,7 +158,8 @@ def cleaned(name: str) -> str:
     return plain.strip(" ")[:32] or "NONE"
 
 
-def setup_text(setup: Setup, channels: Collection[int], time_channel: int, first: Mark, is_indexed: bool) -> str:
+def setup_body(setup: Setup, channels: Collection[int], time_channel: int, first: Mark, is_indexed: bool) -> bytes:
+    """The data of a setup record."""
     said = civil(first.moment)
     hour, minute, second, _ = said.clock()
     host, source = cleaned(setup.host), "E" if setup.is_external else "I"
@@ -276,7 +192,8 @@ def setup_text(setup: Setup, channels: Collection[int], time_channel: int, first
     lines += [
         "R-1\\COM:Packets of type 0 on channel 0 with the tag CBPR hold the filter programs and the counts of bpfrec"
     ]
-    return "".join(f"{it};\r\n" for it in [*lines, *(it for it in setup.attributes if it not in named)])
+    text = "".join(f"{it};\r\n" for it in [*lines, *(it for it in setup.attributes if it not in named)])
+    return struct.pack("<I", 0x0C) + text.encode("ascii")
 
 
 # ---- the file
@@ -345,36 +262,41 @@ class File:
         return " ".join(f"{it} {self.counts[it]}" for it in names) + f" bytes {len(self.data)}"
 
 
-def put_time(file: File, mark: Mark, setup: Setup, recording: Recording, at: int) -> None:
+def judge_year(mark: Mark) -> None:
     if civil(mark.moment).date is None:
-        raise Refused(5, "Year", at)
+        raise Refused(5, "Year", 0)
+
+
+def put_time(file: File, mark: Mark, setup: Setup, recording: Recording) -> None:
+    judge_year(mark)
     file.put("times", recording.time_channel, TIME, mark.tick, time_body(mark, setup.is_external))
 
 
 def whole_file(data: bytes, setup: Setup, most_named: int = MOST_NAMED) -> File:
     """The file of a recording."""
-    recording, file = Recording(data), File(most_named)
-    marks = marks_of(rules_of(setup.origins), recording.least)
+    return file_of(Recording(contents_of(data)), setup, most_named)
+
+
+def file_of(recording: Recording, setup: Setup, most_named: int = MOST_NAMED) -> File:
+    """The file of what a recording has."""
+    file, marks = File(most_named), marks_of(rules_of(setup.origins), recording.least)
     first = next(marks, None)
     if first is None:
         raise Refused(4, "Origin", 0)
-    if civil(first.moment).date is None:
-        raise Refused(5, "Year", 0)
-    text = struct.pack("<I", 0x0C) + setup_text(setup, recording.channels, recording.time_channel, first, True).encode(
-        "ascii"
-    )
-    file.put("setup", 0, SETUP, first.tick, text)
-    put_time(file, first, setup, recording, 0)
+    judge_year(first)
+    body = setup_body(setup, recording.channels, recording.time_channel, first, True)
+    file.put("setup", 0, SETUP, first.tick, body)
+    put_time(file, first, setup, recording)
     ahead = next(marks, None)
     while taken := recording.take():
         channel, piece = taken
         counter = file.greatest if piece.counter is None else piece.counter
         if counter < file.greatest - MOST_DISORDER:
-            raise Refused(2, "Disorder", piece.at)
+            raise Refused(2, "Disorder", piece.at, piece.of)
         if counter > file.greatest + MOST_GAP:
-            raise Refused(3, "Gap", piece.at)
+            raise Refused(3, "Gap", piece.at, piece.of)
         while ahead and ahead.tick <= counter:
-            put_time(file, ahead, setup, recording, piece.at)
+            put_time(file, ahead, setup, recording)
             ahead = next(marks, None)
         put_piece(file, recording, channel, piece._replace(counter=counter), ahead)
     file.end()
@@ -393,4 +315,4 @@ def put_piece(file: File, recording: Recording, channel: int, piece: Piece, ahea
     words = [(it.counter, it.word & ~0xFFFF, it.bytes) for it in frames]
     file.put("packets", channel, FRAMES, piece.counter, body_of(words))
     if rest:
-        recording.channels[channel].appendleft(Piece(piece.at, rest[0].counter, rest))
+        recording.channels[channel].appendleft(piece._replace(counter=rest[0].counter, frames=rest))

@@ -128,6 +128,6 @@ def judge_package(campaign: Campaign) -> None:
     taps = [[it for it in frames if it.channel == channel] for channel in range(1, TAPS + 1)]
     for tap in taps:
         judge_quietly("each frame once", [number_of(it.bytes) for it in tap] == list(range(EVENTS)), tap[:3])
-    moments = [[it.time or 0 for it in tap] for tap in taps]
-    judge("one order by time", [it.time for it in frames] == sorted(it.time or 0 for it in frames))
+    moments = [[it.time_ns or 0 for it in tap] for tap in taps]
+    judge("one order by time", [it.time_ns for it in frames] == sorted(it.time_ns or 0 for it in frames))
     judge_events("package", moments, campaign.events)

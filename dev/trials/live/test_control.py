@@ -37,6 +37,8 @@ def test_each_line_is_answered(work: Path, run: Running) -> None:
     judge("the owner's alone", stat.S_IMODE((work / "control").stat().st_mode) == 0o600)
     done = ask(work, "set", "1", "udp", "port", "5004")
     judge("a filter", (done.returncode, done.stdout, done.stderr) == (0, "installed 1 1 0\n", ""), done)
+    done = ask(work, "set", "1", "")
+    judge("all frames", (done.returncode, done.stdout, done.stderr) == (0, "installed 1 2 0\n", ""), done)
     done = ask(work, "mark", "gear up")
     judge("a mark", done.returncode == 0 and done.stdout.startswith("marked "), done)
     done = ask(work, "status")

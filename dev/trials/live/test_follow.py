@@ -16,7 +16,7 @@ from pathlib import Path
 from typing import NamedTuple, Optional
 
 import pytest
-from bpfrec_host.follow.growing import FACTS_PATIENCE
+from bpfrec_tools.follow.growing import FACTS_PATIENCE
 from frames import HEAD, feed_of, numbered, records, with_check_sequence
 from ground import drawn_flight
 from namespace import socket_into

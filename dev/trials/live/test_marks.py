@@ -11,7 +11,7 @@ import time
 from pathlib import Path
 
 import pytest
-from bpfrec_host.formats.facts import Facts, tick_of
+from bpfrec.formats.facts import Facts, tick_of
 from frames import Record, numbered, records
 from namespace import send_together, socket_into
 from pcapng import described

@@ -41,7 +41,8 @@ from recordings import (
     settings_of_one,
 )
 from support import LIVE, PREFLIGHT, ROOT, judge, judge_quietly, outcome, run, wait_for
-from whole_file import SECOND, SETUP, TIME, Origin, Setup
+from whole_file import SETUP, TIME, Origin, Setup
+from whole_file_clock import SECOND
 from whole_file_parts import ORIGIN, SAMPLE_SETUP, parts_of, recorded, sample_recording
 
 WANTED = {"bin/bpfrec": "make build", "bin/capture": "make build", "ip": "iproute2"}

@@ -12,8 +12,8 @@ from collections import Counter
 from pathlib import Path
 
 import pytest
-from bpfrec_host.formats.transfer import whole_head
-from bpfrec_host.receive.source import SILENCE
+from bpfrec.formats.transfer import whole_head
+from bpfrec_tools.receive.source import SILENCE
 from frames import packet_of
 from ground import RECEIVE, Receiver, Relay, Station, drawn_flight, free_port, is_taken, send, stream_of
 from support import BPFREC, judge, judge_quietly, outcome, wait_for

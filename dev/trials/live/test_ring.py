@@ -215,7 +215,7 @@ def test_records_where_out_is_moved_at_once(work: Path) -> None:
 SLOW_HASH = """
 import sys, time
 sys.path.insert(0, {host!r})
-from bpfrec_host.live import hashes
+from bpfrec_tools.live.kept import hashes
 class Slow:
     def __init__(self, *data):
         self.digest = RIGHT(*data)
@@ -231,7 +231,7 @@ RIGHT = hashes.hashlib.sha256
 class Hashlib:
     sha256 = staticmethod(Slow)
 hashes.hashlib = Hashlib
-from bpfrec_host.__main__ import run_tool
+from bpfrec_tools.__main__ import run_tool
 sys.exit(run_tool("live"))
 """
 

@@ -8,10 +8,11 @@ from pathlib import Path
 
 import pytest
 from disks import memory_disk
-from frames import numbers_in
+from frames import numbers, numbers_in
 from namespace import send_numbered, send_together, take_away
+from recorder import extracted
 from recordings import YES, judge_parts, nothing_left, parts_of, recordings, settings_of, write_settings
-from support import DROPS_ALL, KEEPS_ALL, LIVE, SECONDS, Running, judge, judge_quietly
+from support import BPFREC, DROPS_ALL, EXPORT, KEEPS_ALL, LIVE, SECONDS, Running, judge, judge_quietly, outcome, sums
 
 WANTED = {"bin/bpfrec": "make build", "bin/capture": "make build", "ip": "iproute2", "mount": "mount"}
 pytestmark = [pytest.mark.timed, pytest.mark.usefixtures("namespace")]
@@ -74,6 +75,25 @@ def send_and_change(work: Path, running: Running, name: str, many: int) -> int:
         sent += 500
     send_together(sent, FRAMES)
     return sent + FRAMES
+
+
+def test_a_run_becomes_one_chapter_11_file(work: Path) -> None:
+    """While a filter is changed: each frame is in it once, and the audit says yes, with the sums."""
+    settings = write_settings(work, f'id = 1\nfilter = "{work}/all"', f'id = 2\nfilter = "{work}/none"')
+    running = Running(work, LIVE, "--quiet", "--every", 1, settings, work / "whole.ch11", "rx0=1", "rx1=2")
+    running.wait_until_told("origin")
+    sent = send_and_change(work, running, "whole", 3)
+    running.interrupt()
+    judge_quietly(running.told(), running.ended()[0] == 0)
+    out, files = work / "whole.ch10", recordings(work, "whole")
+    done = outcome(EXPORT, *reversed(files), out, seconds=SECONDS)
+    judge(f"{len(files)} recordings are one file", done.returncode == 0 and done.stdout.startswith("times "), done)
+    audit = outcome(BPFREC, "audit", out).stdout.splitlines()
+    judge("approved, with the sums", audit[0] == f"channel 1 programs 1 frames {sent} offered {sent}", audit)
+    judge("as all of it", audit[-1].startswith("yes ") and sums(out).returncode == 0, audit)
+    judge("each frame once", numbers(extracted(out, 1, work / "one.feed")) == list(range(sent)))
+    kept = numbers(extracted(out, 2, work / "two.feed"))
+    judge("and of the other channel", kept == numbers_in(parts_of(work, "whole", 2)))
 
 
 # ---- what happens meanwhile

@@ -72,8 +72,8 @@ def test_the_example_of_the_page_is_as_its_schema_says() -> None:
 
 def test_settings_are_written_anew_with_each_value(work: Path) -> None:
     """Settings are written anew, each value as it was."""
-    from bpfrec_host.formats.settings import settings_of as read
-    from bpfrec_host.formats.settings_text import text_of
+    from bpfrec.formats.settings import settings_of as read
+    from bpfrec.formats.settings_text import text_of
 
     with contextlib.suppress(FileNotFoundError):
         settings_of(work)

@@ -4,7 +4,6 @@ that was changed in it."""
 import contextlib
 import json
 import os
-import re
 import shutil
 import stat
 import subprocess
@@ -31,11 +30,9 @@ from signing import (
     signature_of,
     without_ssh,
 )
-from support import ROOT, judge, judge_quietly, outcome, run, sums
+from support import judge, judge_quietly, run, sums
 
 WANTED = {"bin/bpfrec": "make build", "bin/capture": "make build", "ip": "iproute2", **NEEDED}
-# Which has the commands by which recordings are verified without the source tree.
-PAGE = ROOT / "docs/user/using/read.md"
 # Where a numbered frame has the last byte of its number.
 NUMBER_AT = len(HEAD) + 7
 
@@ -115,13 +112,6 @@ def test_what_is_as_it_was_is_approved(flight: Flight) -> None:
     judge(
         "the first may be left out", done.returncode == 0 and f"before not given: {first.name}\n" in done.stdout, done
     )
-
-
-def says_the_page(part: Path) -> bool:
-    """Whether the page's command finds the hash of a recording in its facts."""
-    (command,) = re.findall(r"^\$ (grep -q .* && echo the hash is right)$", PAGE.read_text(), re.MULTILINE)
-    done = outcome("sh", "-c", command.replace("bin/signed_00001.ch11", str(part)))
-    return done.stdout == "the hash is right\n"
 
 
 def test_the_last_line_is_that_of_the_sums_still(flight: Flight) -> None:

@@ -11,7 +11,7 @@ import re
 from collections.abc import Callable
 
 import pytest
-from bpfrec_host.formats.clock_state import ClockState
+from bpfrec.formats.clock_state import ClockState
 from browser import Browser, Page
 from scripted import PAGE, Wire, wires_of
 from status_pages import CHANNELS, DESKTOP, PHONE, PICTURES, TOO_WIDE, WALL, WORD, opened

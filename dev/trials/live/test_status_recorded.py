@@ -14,7 +14,7 @@ from pathlib import Path
 from typing import Any
 
 import pytest
-from bpfrec_host.live.events import Counted, event_in
+from bpfrec_tools.live.parts.events import Counted, event_in
 from recordings import Traffic, write_settings
 from scripted import Setup, Status, View, endpoint_in
 from support import BPFREC, CAPTURE, judge, outcome, present, wait_for

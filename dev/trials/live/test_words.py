@@ -2,6 +2,7 @@
 
 from __future__ import annotations
 
+import json
 import subprocess
 import time
 from pathlib import Path
@@ -10,7 +11,7 @@ import pytest
 from frames import numbered, numbers_in, records
 from namespace import socket_into
 from recordings import Traffic, begin, extracted, facts_of, is_approved, parts_of, recordings, write_settings
-from support import LIVE, PREFLIGHT, Running, judge, judge_quietly, outcome, wait_for
+from support import INFO, LIVE, PREFLIGHT, Running, judge, judge_quietly, outcome, wait_for
 
 WANTED = {"bin/bpfrec": "make build", "bin/capture": "make build", "ip": "iproute2", "tcpdump": "tcpdump"}
 pytestmark = [pytest.mark.usefixtures("namespace")]
@@ -75,21 +76,39 @@ def test_a_line_begins_the_next_recording_and_one_ends_the_run(work: Path) -> No
     judge("each frame once, in order", numbers == list(range(len(numbers))), len(numbers))
 
 
-def test_facts_have_the_words_that_a_recording_began_with(work: Path) -> None:
-    """Those of the settings, those of a line, and none of a listing that a line named."""
-    settings = write_settings(work, 'id = 1\nfilter = "udp port 5004"', f'id = 2\nfilter = "{work}/all"')
+def test_facts_have_the_words_of_each_filter(work: Path) -> None:
+    """Those of the settings, those of a line in the recording that went on too, and none of a listing that a line
+    named; info has them of each version."""
+    settings = write_settings(
+        work, 'id = 1\nname = "bus A"\nfilter = "udp port 5004"', f'id = 2\nfilter = "{work}/all"'
+    )
     running = begin(work, work / "set.ch11", "--quiet", "--every", 1_000, settings=settings, stdin=subprocess.PIPE)
-    typed: list[list[str]] = [["set 1 udp port 7777"], [f"set 1 {work}/all", "set 2 arp"], []]
-    for number, lines in enumerate(typed, 1):
-        wait_for("a recording", lambda: len(recordings(work, "set")) == number, 10)
-        for line in lines:
-            type_line(running, line)
-        type_line(running, "next" if lines else "stop")
+    typed: list[list[str]] = [['set "bus A" udp port 7777'], [f"set 1 {work}/all", "set 2 arp"], []]
+    with socket_into("tx0") as one:
+        for number, lines in enumerate(typed, 1):
+            wait_for("a recording", lambda: len(recordings(work, "set")) == number, 10)
+            time.sleep(0.4)
+            one.send(datagram(5_004))
+            time.sleep(0.3)
+            for line in lines:
+                type_line(running, line)
+            if number == 1:
+                running.wait_until_told("installed 1 1 ")
+                one.send(datagram(7_777))
+                time.sleep(0.3)
+            type_line(running, "next" if lines else "stop")
     judge("it ends well", running.ended()[0] == 0, running.told())
     facts = [facts_of(it)["filters"] for it in recordings(work, "set")]
-    found = [{it["channel"]: it.get("expression") for it in filters} for filters in facts]
-    wanted: list[dict] = [{1: "udp port 5004", 2: None}, {1: "udp port 7777", 2: None}, {1: None, 2: "arp"}]
-    judge("as each began", found == wanted, found)
+    found = [[(it["channel"], it.get("expression")) for it in filters] for filters in facts]
+    wanted: list[list] = [
+        [(1, "udp port 5004"), (2, None), (1, "udp port 7777")],
+        [(1, "udp port 7777"), (2, None), (2, "arp")],
+        [(1, None), (2, "arp")],
+    ]
+    judge("in order", found == wanted, found)
+    told = json.loads(outcome(INFO, "--json", recordings(work, "set")[0]).stdout)
+    words = [it["words"] for it in told["channels"]["1"]["versions"]]
+    judge("info has them", words == ["udp port 5004", "udp port 7777"], told["channels"]["1"])
 
 
 def test_next_needs_recordings_that_follow_one_another_and_help_says_what_there_is(work: Path) -> None:

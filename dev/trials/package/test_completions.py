@@ -8,7 +8,7 @@ from collections.abc import Callable
 from pathlib import Path
 
 import pytest
-from bpfrec_host import verbs
+from bpfrec_tools import verbs
 from support import COMMAND, ROOT, judge, outcome
 
 WANTED = {"zsh": "zsh", "fish": "fish"}

@@ -19,7 +19,7 @@ sys.path.insert(0, str(ROOT / "dev/package"))
 from typing import Any
 
 import help_texts
-from bpfrec_host import VERSION, verbs
+from bpfrec_tools import VERSION, verbs
 
 WANTED = {"bin/bpfrec": "make build", "man": "man-db", "mandoc": "mandoc", "dpkg-deb": "dpkg", "tshark": "tshark"}
 PAGES = sorted((ROOT / "bin/man").glob("*.1"))

@@ -18,8 +18,8 @@ PATIENCE = 120
 READ = """
 import sys
 sys.path[:0] = [sys.argv[1]]
-import bpfrec, bpfrec_host
-assert bpfrec.__file__.startswith(sys.argv[1]) and bpfrec_host.__file__.startswith(sys.argv[1])
+import bpfrec
+assert bpfrec.__file__.startswith(sys.argv[1])
 for frame in bpfrec.open(sys.argv[2]):
     print(frame.channel, frame.counter, len(frame.bytes), frame.fcs_wrong)
 """
@@ -27,7 +27,7 @@ for frame in bpfrec.open(sys.argv[2]):
 IMPORT_ALL = """
 import importlib, pkgutil, sys
 sys.path[:0] = [sys.argv[1]]
-names = [it.name for top in ("bpfrec", "bpfrec_host") for it in pkgutil.walk_packages([f"{sys.argv[1]}/{top}"], f"{top}.")]
+names = [it.name for it in pkgutil.walk_packages([f"{sys.argv[1]}/bpfrec"], "bpfrec.")]
 for name in names:
     importlib.import_module(name)
     assert sys.modules[name].__file__.startswith(sys.argv[1])
@@ -79,8 +79,7 @@ def test_the_package_needs_python_alone(package: Path) -> None:
 
 def test_the_package_has_its_types_and_nothing_of_the_tools(unpacked: Path) -> None:
     judge("types are marked", (unpacked / "bpfrec/py.typed").exists())
-    found = {it.name for it in (unpacked / "bpfrec_host").iterdir()}
-    judge("no tool is in it", not found & {"live", "info", "follow", "preflight", "__main__.py"}, found)
+    judge("nothing else is in it", [it.name for it in unpacked.iterdir()] == ["bpfrec"], [*unpacked.iterdir()])
     judge("nothing is compiled", not list(unpacked.rglob("__pycache__")))
 
 
@@ -101,7 +100,7 @@ def test_make_install_puts_it_where_python_looks(work: Path) -> None:
     for prefix in ("/usr/local", "/usr", "/opt/bpfrec"):
         dest = work / prefix.replace("/", "_")
         made("install", PREFIX=prefix, DESTDIR=dest)
-        (found,) = [it for it in dest.rglob("bpfrec/_frame.py")]
+        (found,) = [it for it in dest.rglob("bpfrec/values.py")]
         folder = f"/{found.parents[1].relative_to(dest)}"
         is_right = (
             folder in looked.split() if prefix.startswith("/usr") else folder == f"{prefix}/lib/python3/dist-packages"

@@ -5,7 +5,7 @@ import zipfile
 from pathlib import Path
 
 import pytest
-from bpfrec_host import VERSION
+from bpfrec import __version__ as VERSION
 from reading import SAMPLES
 from support import ROOT, judge, judge_quietly, outcome, run
 

@@ -7,9 +7,11 @@ import struct
 from pathlib import Path
 
 import pytest
-from bpfrec_host.formats.ch11.body import What
+from bpfrec.formats.body import Frames
+from bpfrec.formats.packet import What
+from bpfrec.formats.records import Program
 from frames import COMPUTER, FRAMES, HEADER_LENGTH, sum_of
-from reading import ch11, packets_of, salvaged
+from reading import packets_of, salvaged
 from support import BPFREC, judge, outcome
 
 WANTED = {"bin/bpfrec": "make build"}
@@ -126,9 +128,9 @@ PACKETS: dict[str, tuple[bytes, str]] = {
 
 def described(what: What) -> str:
     """What a packet holds for the reader of host/, in the words of `list`."""
-    if isinstance(what, ch11.Frames):
+    if isinstance(what, Frames):
         return f"frames {len(what.counters)}"
-    if isinstance(what, ch11.Program):
+    if isinstance(what, Program):
         return f"program {what.channel} {what.version} {what.first} {len(what.insns) // 8}"
     return "other" if what is None else f"end {what.channel} {what.offered} {what.kept}"
 

@@ -13,6 +13,7 @@ from frames import FRAMES, body_of, packet_of
 from reading import SAMPLES
 from support import CHECK_SUMS, judge, judge_quietly, outcome
 from whole_file import Origin, Setup
+from whole_file_parts import recorded
 from whole_file_trials import chapter11, judge_file
 
 WANTED = {"bin/bpfrec": "make build"}
@@ -42,30 +43,11 @@ def frame(counter: int, length: int = 60) -> tuple[int, int, int]:
     return counter, 0, length
 
 
-def recorded(draw: random.Random, channels: list[int], start: int, seconds: int, most: int = 300) -> DrawnRecording:
-    """A recording whose counters rise over so many seconds, with packets in the order of their last frames."""
-    made, packets = DrawnRecording(), []
-    for channel in channels:
-        made.add_program(channel, 0, start, drawn_insns(draw))
-        counters = sorted(start + draw.randrange(seconds * SECOND) for _ in range(draw.choice([0, 1, 5, most])))
-        frames = [(it, draw.choice([0, 0, 1, 2]), draw.randrange(18, 200)) for it in counters]
-        while frames:
-            size = draw.randrange(1, 80)
-            packets.append((frames[:size][-1][0], channel, frames[:size]))
-            frames = frames[size:]
-    for _, channel, frames in sorted(packets):
-        made.add_frames(channel, frames)
-    for channel in channels:
-        counters = made.channel(channel).counters()
-        made.add_end(channel, draw.choice([0, 3]), counters[-1] if counters else start)
-    return made
-
-
 # ---- recordings of all kinds
 
 
 def test_the_least_recording(work: Path) -> None:
-    done = chapter11(work, SAMPLES[1].read_bytes(), 'origin = "1764590400.250000123"\n')
+    done = chapter11(work, [SAMPLES[1].read_bytes()], 'origin = "1764590400.250000123"\n')
     judge("what is printed", done.stdout == "times 1 packets 1 records 3 index 2 bytes 1192\n", done)
     data = (work / "flight.ch10").read_bytes()
     judge("its bytes", len(data) == 1_192 and hashlib.sha256(data).hexdigest() == ONE_SUM)
@@ -84,7 +66,7 @@ IN_TAI = 'counter = 0, origin = "1764590437.250000123"'
     ],
 )
 def test_an_origin_in_tai_or_in_a_table_of_its_recording_gives_the_same_file(work: Path, setup: str) -> None:
-    done = chapter11(work, SAMPLES[1].read_bytes(), f"{setup}\n")
+    done = chapter11(work, [SAMPLES[1].read_bytes()], f"{setup}\n")
     judge("its sum", hashlib.sha256((work / "flight.ch10").read_bytes()).hexdigest() == ONE_SUM, done)
 
 

@@ -21,9 +21,9 @@ ORIGIN_TICKS = 1764590400_2500001
 def recording_and_file(work: Path) -> tuple[Path, Path]:
     """A recording of three channels, and its whole file."""
     recording = recording_of_three(work)
-    done = chapter11(work, recording.read_bytes(), SETUP)
+    done = chapter11(work, [recording.read_bytes()], SETUP)
     judge_quietly("it is written", done.returncode == 0, done)
-    return work / "flight.ch11", work / "flight.ch10"
+    return work / "flight0.ch11", work / "flight.ch10"
 
 
 def channels_in(recording: Path) -> list[str]:
@@ -99,5 +99,5 @@ def test_check_finds_it_whole(pair: tuple[Path, Path]) -> None:
 def test_the_file_of_the_examples(work: Path) -> None:
     """Of a recording that the recorder made, whose packets of a slow channel span seconds."""
     recording = flight_of(work)
-    done = chapter11(work, recording.read_bytes(), SETUP)
+    done = chapter11(work, [recording.read_bytes()], SETUP)
     judge("it is written", re.fullmatch(r"times \d+ packets \d+ records 4 index 2 bytes \d+\n", done.stdout), done)

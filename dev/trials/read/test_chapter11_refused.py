@@ -106,7 +106,7 @@ TAKEN = (
 
 def setup_fault(work: Path, setup: str) -> str:
     """The fault of SETUP that is told, where nothing else is."""
-    done = chapter11(work, SAMPLES[1].read_bytes(), setup)
+    done = chapter11(work, [SAMPLES[1].read_bytes()], setup)
     judge_quietly(setup, done.returncode == 2 and not done.stdout and done.stderr.startswith("setup "), done)
     judge_quietly(f"{setup}: no OUT", not (work / "flight.ch10").exists())
     return done.stderr.removeprefix("setup ").removesuffix("\n")
@@ -128,16 +128,16 @@ def test_names_that_the_setup_record_writes_are_no_attributes(work: Path) -> Non
 
 def test_setups_that_are_taken(work: Path) -> None:
     for setup in TAKEN:
-        done = chapter11(work, b"", setup + "\n")
+        done = chapter11(work, [b""], setup + "\n")
         judge_quietly(setup, done.returncode in (0, 1) and not done.stderr, done)
     origins = ", ".join(['{ counter = 0, origin = "0" }'] * 65_536)
-    judge("65,536 origins", chapter11(work, b"", f"origins = [{origins}]").returncode == 0)
+    judge("65,536 origins", chapter11(work, [b""], f"origins = [{origins}]").returncode == 0)
     one_more = f'origins = [{origins}, {{ counter = 0, origin = "0" }}]'
-    judge("65,537 origins", chapter11(work, b"", one_more).stderr == "setup 4 Value origins\n")
+    judge("65,537 origins", chapter11(work, [b""], one_more).stderr == "setup 4 Value origins\n")
 
 
 def test_files_that_cannot_be_read(work: Path) -> None:
-    recording, setup = write_inputs(work, SAMPLES[1].read_bytes(), LEAST)
+    recording, setup = write_inputs(work, [SAMPLES[1].read_bytes()], LEAST)
     out, none, pipe = work / "flight.ch10", work / "none", work / "pipe"
     os.mkfifo(pipe)
     for words, named in (
@@ -170,13 +170,13 @@ def test_files_that_cannot_be_read(work: Path) -> None:
 def test_what_is_wrong_first_is_told(work: Path) -> None:
     """An OUT that is an input, then SETUP, then the recording's reading, then what is refused."""
     cut = SAMPLES[1].read_bytes()[:-1]
-    done = chapter11(work, cut, "a")
+    done = chapter11(work, [cut], "a")
     judge("SETUP before the reading", done.stderr == "setup 1 Syntax\n", done)
     other = DrawnRecording()
     other.add_other(7)
-    done = chapter11(work, bytes(other.data) + cut, LEAST)
+    done = chapter11(work, [bytes(other.data) + cut], LEAST)
     judge("the reading before Other", done.returncode == 1 and done.stderr.startswith("read 1 Truncated "), done)
-    recording, setup = write_inputs(work, cut, "a")
+    recording, setup = write_inputs(work, [cut], "a")
     done = outcome(BPFREC, "chapter11", recording, setup, recording)
     judge("OUT before SETUP", done.stderr == f"file {recording}\n", done)
 
@@ -197,7 +197,8 @@ def test_recordings_that_have_no_whole_file(work: Path) -> None:
     judge("other before the year", judge_file(work, "first", bytes(other.data), late) == "refused 1 Other 104")
     under_way = Setup((Origin(0, YEAR_4000 - 3 * 10**9),))
     four = DrawnRecording()
-    four.add_frames(1, [(it * SECOND, 0, 60) for it in range(5)])
+    for second in range(5):
+        four.add_frames(1, [(second * SECOND, 0, 60)])
     judge("the year 4000 under way", judge_file(work, "four", bytes(four.data), under_way) == "refused 5 Year 0")
     none = Setup((Origin(0, 50), Origin(2**48 - 1, 99)))
     last = DrawnRecording()
@@ -217,7 +218,7 @@ def test_every_channel_is_named(work: Path) -> None:
 
 @pytest.mark.parametrize("limit", [0, 1, 687, 688, 1_000, 1_191])
 def test_an_output_that_fails(work: Path, limit: int) -> None:
-    recording, setup = write_inputs(work, SAMPLES[1].read_bytes(), 'origin = "1764590400.250000123"\n')
+    recording, setup = write_inputs(work, [SAMPLES[1].read_bytes()], 'origin = "1764590400.250000123"\n')
     out = work / "flight.ch10"
 
     def limited() -> None:
@@ -229,7 +230,7 @@ def test_an_output_that_fails(work: Path, limit: int) -> None:
 
 
 def test_devices_as_out(work: Path) -> None:
-    recording, setup = write_inputs(work, SAMPLES[1].read_bytes(), LEAST)
+    recording, setup = write_inputs(work, [SAMPLES[1].read_bytes()], LEAST)
     judge("/dev/null", outcome(BPFREC, "chapter11", recording, setup, "/dev/null").returncode == 0)
     judge("/dev/full", outcome(BPFREC, "chapter11", recording, setup, "/dev/full").stderr == "file /dev/full\n")
 
@@ -243,7 +244,7 @@ def test_a_recording_that_is_exchanged_between_two_looks(work: Path) -> None:
     """The first pass has ended where OUT is opened: a pipe, whose writer waits for a reader. The file of the
     second would have the same counts, since only the bytes of a frame are others."""
     data = SAMPLES[0].read_bytes()
-    recording, setup = write_inputs(work, data, LEAST)
+    recording, setup = write_inputs(work, [data], LEAST)
     out = work / "out.pipe"
     os.mkfifo(out)
     with subprocess.Popen([BPFREC, "chapter11", recording, setup, out], stdout=-1, stderr=-1, text=True) as process:

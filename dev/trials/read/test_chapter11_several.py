@@ -11,10 +11,11 @@ from typing import NamedTuple
 
 import pytest
 import tomllib
-from disks import memory_disk
+from expected_facts import UNKNOWN_SCALE
 from frames import FRAMES, HEADER_LENGTH, body_of, numbered, packet_of, program_packet, records, with_check_sequence
+from joined_file import joined_file
 from recorder import extracted
-from several_recorders import facts_by, recording_at
+from several_recorders import facts_by, recording_at, run_at
 from support import BPFREC, EXPORT, judge, judge_quietly, outcome, sums
 from whole_file_parts import recorded
 
@@ -86,7 +87,6 @@ def test_channels_that_do_not_meet_keep_their_ids(work: Path) -> None:
     judge("nothing is renumbered", done.returncode == 0 and done.stdout.startswith("times "), done)
     setup = (work / "all.ch10").read_bytes()
     judge("their names", b"ENAM-2-1:eth0;" in setup and b"ENAM-3-1:eth1;" in setup and b"R-1\\ID:tap;" in setup)
-    # The sums stay as well, since no byte of a body changes.
     judge_whole(work / "all.ch10", 2)
 
 
@@ -99,6 +99,17 @@ def test_ids_that_meet_get_the_least_that_nobody_has(work: Path) -> None:
     wanted = ["channel 1 of 1.ch11 is 3", "channel 1 of 3.ch11 is 4"]
     judge("by the order of the arguments", done.stdout.splitlines()[:2] == wanted, done)
     judge_whole(work / "all.ch10", 4)
+
+
+def test_a_channel_without_a_name_is_called_by_its_id(work: Path) -> None:
+    for at in range(3):
+        facts: dict = {**facts_by(f"tap{at}", "eth0", origin()), "interfaces": []}
+        recording_at(work / f"{at}.ch11", [SECOND], at, facts, channel=1 + at // 2)
+    done = made(work, "0.ch11", "1.ch11", "2.ch11", "all.ch10")
+    judge("its old one", done.stdout.startswith("channel 1 of 1.ch11 is 3\n"), done)
+    setup = (work / "all.ch10").read_bytes()
+    for line in (b"ENAM-2-1:channel 1 of tap0;", b"ENAM-3-1:channel 2;", b"ENAM-4-1:channel 1 of tap1;"):
+        judge(line.decode(), line in setup)
 
 
 @pytest.mark.parametrize("moved", [SECOND // 2, -SECOND // 2, SECOND, 3_600 * SECOND + 1])
@@ -127,6 +138,22 @@ def test_a_clock_that_was_set_counts_from_there_on(work: Path) -> None:
     judge("counters", counters == [[0, 10, 2_500_020, 2_500_030], [0, 10, 20, 30]], counters)
 
 
+def test_a_clock_that_was_set_far_counts_as_it_did_last(work: Path) -> None:
+    """It was an hour ahead until the third frame, and then twice set a little."""
+    noted = [(f"{MOMENT + 3_600}.000000000", 0, None), *((it[0], 20, "-3600.000000000") for it in origin())]
+    noted += [(f"{MOMENT}.250000000", 30, "0.250000000"), (f"{MOMENT}.500000000", 40, "0.250000000")]
+    recording_at(work / "one.ch11", [0, 10, 20, 30, 40], 1, facts_by("tap1", "eth0", noted))
+    recording_at(work / "two.ch11", [0], 2, facts_by("tap2", "eth0", origin()))
+    done = made(work, "one.ch11", "two.ch11", "all.ch10")
+    line = (
+        "bpfrec export: one.ch11.json: the clock was set by over a second: frames before that have times by the clock "
+    )
+    judge("it is said", (done.returncode, done.stderr) == (0, f"{line}as it was set then\n"), done)
+    judge_whole(work / "all.ch10", 2)
+    counters = [it.counter for it in frames_in(work / "all.ch10", 1)]
+    judge("counters", counters == [0, 10, 20, 2_500_030, 5_000_040], counters)
+
+
 def test_a_clock_in_tai_is_beside_one_in_utc(work: Path) -> None:
     by_tai = [(f"{MOMENT + 37}.000000000", 0, None, "TAI", 37)]
     recording_at(work / "one.ch11", [SECOND], 1, facts_by("tap1", "eth0", by_tai))
@@ -136,22 +163,66 @@ def test_a_clock_in_tai_is_beside_one_in_utc(work: Path) -> None:
 
 
 def test_drawn_recordings_become_one_file(work: Path) -> None:
-    """Of frames of all lengths, with marks, of recorders that began at other times; channel 3 has both."""
+    """Of frames of all lengths, with marks, of recorders that began at other times; channels 1 and 3 have both. The
+    second writer makes the same of SETUP."""
     draw = random.Random(1)
     for turn in range(5):
-        for at, channels in enumerate(([1, 3], [2, 3, 4])):
+        for at, channels in enumerate(([1, 3], [4, 3, 1])):
             path = work / f"{at}.ch11"
             path.write_bytes(recorded(draw, channels, 1_000, 3).data)
             facts: dict = {**facts_by(f"tap{at}", "eth0", origin(at * turn * SECOND)), "interfaces": []}
             Path(f"{path}.json").write_text(json.dumps(facts))
         done = made(work, "--force", "0.ch11", "1.ch11", "all.ch10")
-        judge_quietly("it is made", done.returncode == 0 and "channel 3 of 1.ch11 is 5\n" in done.stdout, done)
+        lines = "channel 1 of 1.ch11 is 2\nchannel 3 of 1.ch11 is 5\ntimes "
+        judge_quietly("it is made", done.returncode == 0 and done.stdout.startswith(lines), done)
         judge_quietly("it is a whole file", sums(work / "all.ch10").returncode == 0)
-        for at, channel, new in ((0, 1, 1), (0, 3, 3), (1, 2, 2), (1, 3, 5), (1, 4, 4)):
+        setup = tomllib.loads(made(work, "--print-setup", "0.ch11", "1.ch11").stdout)
+        wanted = bytes(joined_file([(work / f"{at}.ch11").read_bytes() for at in range(2)], setup).data)
+        judge_quietly("byte for byte", (work / "all.ch10").read_bytes() == wanted)
+        for at, channel, new in ((0, 1, 1), (0, 3, 3), (1, 1, 2), (1, 3, 5), (1, 4, 4)):
             moved = SECOND * turn * at
-            wanted = [it._replace(counter=it.counter + moved) for it in frames_in(work / f"{at}.ch11", channel)]
-            judge_quietly(f"channel {new}", frames_in(work / "all.ch10", new) == wanted, (turn, at, channel))
+            frames = [it._replace(counter=it.counter + moved) for it in frames_in(work / f"{at}.ch11", channel)]
+            judge_quietly(f"channel {new}", frames_in(work / "all.ch10", new) == frames, (turn, at, channel))
     judge("drawn ones", True)
+
+
+# ---- runs
+
+
+def test_a_run_and_another_recorder_become_one_file(work: Path, two: list[Path]) -> None:
+    """Of the run there is one channel, with its frames one behind the other. The second writer makes the same of SETUP."""
+    names = run_at(work, 3)
+    words = ["two.ch11", names[2], names[0], names[1]]
+    done = made(work, *words, "all.ch10")
+    lines = done.stdout.splitlines()
+    judge("its channel is named once", (done.returncode, lines[:-1]) == (0, [f"channel 1 of {names[0]} is 2"]), done)
+    judge_whole(work / "all.ch10", 2)
+    frames = [it for name in names for it in frames_in(work / name, 1)]
+    judge("all frames", frames_in(work / "all.ch10", 2) == frames, frames)
+    setup = tomllib.loads(made(work, "--print-setup", *words).stdout)
+    recordings = [(work / it).read_bytes() for it in ("two.ch11", *names)]
+    wanted = bytes(joined_file(recordings, setup).data)
+    judge("byte for byte", (work / "all.ch10").read_bytes() == wanted)
+
+
+def test_a_run_of_which_one_is_missing(work: Path) -> None:
+    names = run_at(work, 3)
+    refused(work, 1, f"{names[0]}: next missing: {names[1]}: --gaps makes a file without it", names[0], names[2])
+    done = made(work, "--gaps", names[2], names[0], "all.ch10")
+    judge("it is made with --gaps", done.returncode == 0 and done.stdout.startswith("times "), done)
+    judge_whole(work / "all.ch10", 1)
+    comment = f"G\\COM:recordings of a run that are missing: {names[1]};\r\n".encode()
+    judge("and says so", comment in (work / "all.ch10").read_bytes())
+
+
+def test_recordings_of_one_interface_that_do_not_follow_one_another(work: Path) -> None:
+    """Each has a channel of its own."""
+    for name, begun in (("one", 0), ("two", SECOND)):
+        facts = {**facts_by("tap1", "eth0", origin(begun)), "recording": f"{name}.ch11"}
+        recording_at(work / f"{name}.ch11", [0], begun, facts)
+    done = made(work, "one.ch11", "two.ch11", "all.ch10")
+    judge("two channels", (done.returncode, done.stdout.splitlines()[0]) == (0, "channel 1 of two.ch11 is 2"), done)
+    judge_whole(work / "all.ch10", 2)
 
 
 # ---- what is refused
@@ -172,18 +243,17 @@ def test_what_can_not_be_one_file_is_refused(work: Path, two: list[Path]) -> Non
     Path(f"{work}/again.ch11.json").write_text(Path(f"{one}.json").read_text())
     refused(work, 1, "one.ch11: it is given twice", "one.ch11", "one.ch11")
     refused(work, 1, "again.ch11: it is given twice, as one.ch11 too", "one.ch11", "again.ch11")
-    way_out = "each gets a file of its own, and a capture takes all"
-    whose = f"one.ch11 and same.ch11 are both of eth0 of tap1, as recordings of a run are: {way_out}"
-    refused(work, 1, whose, "one.ch11", "same.ch11")
+    refused(work, 1, "same.ch11: it is given twice, by its facts, as one.ch11 too", "one.ch11", "same.ch11")
     refused(work, 3, "plain.ch11.json: No such file or directory", "one.ch11", "plain.ch11")
     several = "--facts and --origin are for one recording: several have their facts beside them"
     refused(work, 2, several, "--origin", "0", "one.ch11", "two.ch11")
     refused(work, 2, several, "--facts", "one.ch11.json", "one.ch11", "two.ch11")
     refused(work, 2, "-: it is standard input, and a whole file is made by reading twice", "one.ch11", "-")
-    other.write_bytes(other.read_bytes()[:-10])
-    refused(work, 1, f"two.ch11: read 1 Truncated {len(other.read_bytes()) - 46}", *ORDERED)
-    other.write_bytes(one.read_bytes()[:-4] + b"\1\2\3\4")
-    Path(f"{other}.json").write_text(json.dumps(facts_by("tap2", "eth0", origin())))
+    scale = "its scale is unknown: --utc says that it is UTC, and --tai 37 that it is 37 s ahead"
+    facts_of_other = Path(f"{other}.json")
+    facts_of_other.write_text(json.dumps(facts_by("tap2", "eth0", UNKNOWN_SCALE)))
+    refused(work, 1, f"two.ch11.json: the origin from counter 0 on: {scale}", *ORDERED)
+    judge("unless it is said", made(work, "--tai=37", *ORDERED, "all.ch10").returncode == 0)
 
 
 ORDERED = ("one.ch11", "two.ch11")
@@ -197,25 +267,47 @@ def test_an_out_that_is_an_input_of_several_is_refused(work: Path, two: list[Pat
         judge(path.name, (done.returncode, done.stderr) == (3, line) and path.read_bytes() == before, done)
 
 
-def test_a_packet_of_another_recorder_is_refused_by_its_place(work: Path, two: list[Path]) -> None:
+NEW_ID = "channel 1 of two.ch11 is 2\n"
+
+
+def test_what_the_program_refuses_has_the_place_of_its_recording(work: Path, two: list[Path]) -> None:
     whole = two[1].read_bytes()
-    two[1].write_bytes(whole + packet_of(9, b"1234", 0, 0x40, 0, True))
-    refused(work, 1, f"two.ch11: refused 1 Other {len(whole)}", *ORDERED)
+    wrong = bytearray(whole)
+    wrong[HEADER_LENGTH + 12] ^= 1
+    rows = [
+        (whole + packet_of(9, b"1234", 0, 0x40, 0, True), f"refused 1 Other {len(whole)} 1\n", ""),
+        (whole[:-10], "", f"read 1 Truncated {len(whole) - 56} 1\n"),
+        (bytes(wrong), "", "read 8 DataChecksum 0 1\n"),
+    ]
+    for data, line, told in rows:
+        two[1].write_bytes(data)
+        done = made(work, *ORDERED, "all.ch10")
+        judge(line or told, (done.returncode, done.stdout, done.stderr) == (1, NEW_ID + line, told), done)
+        judge_quietly("nothing is made", not (work / "all.ch10").exists())
 
 
-def test_a_body_with_a_wrong_sum_is_refused_by_its_place(work: Path, two: list[Path]) -> None:
-    whole = bytearray(two[1].read_bytes())
-    whole[HEADER_LENGTH + 12] ^= 1
-    two[1].write_bytes(whole)
-    done = made(work, *ORDERED, "all.ch10")
-    judge("refused", done.returncode == 1 and "two.ch11: read 8 DataChecksum 0" in done.stderr, done)
+def test_more_recordings_than_the_program_takes(work: Path) -> None:
+    names = [f"{at}.ch11" for at in range(1_025)]
+    for at, name in enumerate(names):
+        recording_at(work / name, [SECOND], at, facts_by(f"tap{at}", "eth0", origin()), channel=1 + at)
+    done = made(work, *names, "all.ch10")
+    judge("it refuses them", (done.returncode, done.stdout) == (2, "") and "1024" in done.stderr, done.stderr)
+    done = made(work, *names[1:], "all.ch10")
+    judge("and takes one less", done.returncode == 0 and " packets 1024 " in done.stdout, done)
 
 
 def test_setup_of_several_is_printed(work: Path, two: list[Path]) -> None:
     """With the new IDs ahead of it, as comments."""
     done = made(work, "--print-setup", *ORDERED)
-    judge("it is printed", done.returncode == 0 and 'name = "eth0 of tap2"' in done.stdout, done)
-    judge("the IDs", done.stdout.startswith("# channel 1 of two.ch11 is 2\n"), done)
+    judge("the IDs", done.returncode == 0 and done.stdout.startswith(f"# {NEW_ID}"), done)
+    origins = [{"counter": 0, "origin": f"{MOMENT}.000000000"}]
+    tables = [{"origins": origins, "channel": [{"id": 1, "name": f"eth0 of tap{it}"}]} for it in (1, 2)]
+    wanted = {"host": "tap1 tap2", "program": "bpfrec 0.1.0", "recording": tables}
+    judge("a table for each", tomllib.loads(done.stdout) == wanted, done.stdout)
+    others = "--tai=37", "--external", "--attribute=G\\SC:U"
+    found = tomllib.loads(made(work, "--print-setup", *others, *ORDERED).stdout)
+    asked = {"scale": "TAI", "tai_offset": 37, "external": True, "attributes": ["G\\SC:U"]}
+    judge("and what is asked of all", found == {**asked, **wanted} and list(found)[:2] == [*asked][:2], found)
     done = made(work, "--print-setup", *ORDERED, "all.ch10")
     judge("there is no OUT", (done.returncode, done.stdout) == (3, "") and not (work / "all.ch10").exists(), done)
 
@@ -224,14 +316,5 @@ def test_networks_of_several_are_those_of_their_channels(work: Path, two: list[P
     frame = (SECOND, 7 << 16, with_check_sequence(numbered(0)))
     two[1].write_bytes(program_packet(1, 0) + packet_of(1, body_of([frame]), 0, FRAMES, SECOND, True))
     done = made(work, "--print-setup", *ORDERED)
-    found = {it["id"]: it.get("net", 0) for it in tomllib.loads(done.stdout)["channel"]}
-    judge("by the new ID", found == {1: 0, 2: 7}, done)
-
-
-def test_a_folder_without_room_for_both_is_said(work: Path, two: list[Path]) -> None:
-    with memory_disk(work / "full", "size=64k") as disk:
-        (disk / "filler").write_bytes(bytes(62_000))
-        done = made(work, *ORDERED, disk / "all.ch10")
-        line = f"file {disk}: No space left on device\n"
-        judge("it is said", (done.returncode, done.stdout, done.stderr) == (3, "", line), done)
-        judge("and nothing made", os.listdir(disk) == ["filler"])
+    found = [it["channel"] for it in tomllib.loads(done.stdout)["recording"]]
+    judge("each has its own", ["net" in found[0][0], found[1][0]["id"], found[1][0]["net"]] == [False, 1, 7], found)

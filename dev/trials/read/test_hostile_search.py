@@ -5,8 +5,10 @@ import time
 from pathlib import Path
 
 import pytest
+from bpfrec.formats.packet import header_or_fault
+from bpfrec.formats.reader import reader_of
 from frames import COMPUTER, FRAMES, body_of, header_of, packet_of, program_packet
-from reading import ch11, facts_of, salvaged
+from reading import facts_of, salvaged
 from rows import rows_of
 from support import INFO, MEBIBYTE, SALVAGE, judge, outcome
 
@@ -95,10 +97,10 @@ def test_a_header_is_judged_once_in_each_damaged_place(monkeypatch: pytest.Monke
 
     def counted(head: bytes) -> object:
         judged.append(head)
-        return ch11.packet.header_or_fault(head)
+        return header_or_fault(head)
 
-    monkeypatch.setattr("bpfrec_host.formats.ch11.held.header_or_fault", counted)
+    monkeypatch.setattr("bpfrec.formats.held.header_or_fault", counted)
     with open(work / "headers.ch11", "rb") as file:
-        places = list(ch11.Reader(file).pieces())
+        places = list(reader_of(file).pieces())
     judge("each is a damaged place", len(places) == 1_000, len(places))
     judge("each is judged once", len(judged) == 1_000, len(judged))

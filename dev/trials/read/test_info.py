@@ -11,8 +11,9 @@ from collections import Counter
 from pathlib import Path
 
 import pytest
+from bpfrec.formats.body import BadBody, other_frames, walk
 from frames import body_of, program_packet
-from reading import SAMPLES, ch11, facts_of, recording_of_three
+from reading import SAMPLES, facts_of, recording_of_three
 from support import BPFREC, CONVERT, INFO, judge, judge_quietly, outcome, run
 
 WANTED = {"bin/bpfrec": "make build", "capinfos": "wireshark-common", "tshark": "tshark"}
@@ -115,13 +116,16 @@ def test_bodies_are_read_alike_in_both_ways() -> None:
         are_whole = all(len(it) >= 18 and not word >> 28 & 3 for _, word, it in frames)
         wanted = ([it[0] for it in frames], sum(len(it) for _, _, it in frames), marked, are_whole)
         body = body_of(frames)
-        found = [ch11.frames_in(body), ch11.other_frames(body, len(frames))]
+        found = [walk(body), other_frames(body, len(frames))]
         if len(frames[-1][2]) % 2:
-            found.append(ch11.frames_in(body[:-1]))
-        judge_quietly(f"body {turn}: {found}, made of {wanted}", all(tuple(it or ()) == wanted for it in found))
+            found.append(walk(body[:-1]))
+        judged = [it and (it.counters, it.bytes, it.marked, it.are_whole) for it in found]
+        judge_quietly(f"body {turn}: {judged}, made of {wanted}", all(it == wanted for it in judged))
+        rows = [[(*row[:2], body[row[2] :][: row[1] & 0x3FFF]) for row in zip(*it[:3])] for it in found if it]
+        judge_quietly("each where it is", all(it == [(a, w | len(b), b) for a, w, b in frames] for it in rows), rows)
         for wrong in (body + b"\0\0", body[: len(body) - 2], body[:4] + body[8:]):
-            with contextlib.suppress(ch11.BadBody):
-                judge_quietly(f"body {turn} is refused", ch11.frames_in(wrong) is None)
+            with contextlib.suppress(BadBody):
+                judge_quietly(f"body {turn} is refused", walk(wrong) is None)
     judge("bodies of frames of equal and other lengths are what they were made of", True)
 
 

@@ -9,9 +9,9 @@ from pathlib import Path
 from typing import Any
 
 import pytest
-from bpfrec_host.info.contents import Recording
-from bpfrec_host.info.facts_file import facts_beside
-from bpfrec_host.program import Audit
+from bpfrec_tools.cli.program import Audit
+from bpfrec_tools.info.contents import Recording
+from bpfrec_tools.info.facts_file import facts_beside
 from expected_facts import (
     BEFORE_1970,
     ODD_VALUES,
@@ -311,7 +311,7 @@ def judge_times(path: Path, bare: dict, found: Recording, answer: Audit, origins
 
 
 def test_times_by_drawn_origins_are_those_of_a_second_reading(work: Path) -> None:
-    """The times of three channels by drawn origins, and of drawn counters, beside those of bpfrec_host."""
+    """The times of three channels by drawn origins, and of drawn counters, beside those of bpfrec_tools."""
     path, draw = recording_of_three(work), random.Random(SEED)
     bare = facts_of(path)["channels"]
     found, answer = read(str(path)), audit_of(str(path))
@@ -324,7 +324,7 @@ def test_times_by_drawn_origins_are_those_of_a_second_reading(work: Path) -> Non
 
 
 def test_days_are_those_of_date() -> None:
-    """The days of bpfrec_host beside those of `date`."""
+    """The days of bpfrec_tools beside those of `date`."""
     draw = random.Random(SEED)
     seconds = [draw.randrange(-(10**10), 10**11) for _ in range(20)]
     given = "".join(f"@{it}\n" for it in seconds)

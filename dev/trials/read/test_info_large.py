@@ -9,8 +9,8 @@ from pathlib import Path
 from typing import Any, BinaryIO
 
 import pytest
+from bpfrec.formats.packet import word_sum
 from frames import FRAMES, HEADER_LENGTH, body_of, end_packet, header_of, packet_of, program_packet
-from reading import ch11
 from support import BPFREC, INFO, SALVAGE, judge, outcome, run
 
 WANTED = {"bin/bpfrec": "make build", "time": "time"}
@@ -38,7 +38,7 @@ def write_packets(file: BinaryIO, size: int) -> int:
             body[4 + at :: STRIDE] = counters[at::8]
         lengths = (HEADER_LENGTH + len(body) + 4, len(body))
         file.write(header_of(1, lengths, packets, FRAMES, first, True) + body)
-        file.write(ch11.word_sum(body).to_bytes(4, "little"))
+        file.write(word_sum(body).to_bytes(4, "little"))
         packets += 1
     return packets * COUNT
 

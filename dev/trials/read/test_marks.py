@@ -10,7 +10,7 @@ from pathlib import Path
 from typing import Any
 
 import pytest
-from bpfrec_host.formats.marks import marks_in
+from bpfrec.formats.marks import marks_in
 from expected_facts import TAI_37, UNKNOWN_SCALE, facts_of_run
 from frames import FRAMES, body_of, end_packet, numbered, packet_of, program_packet, with_check_sequence
 from support import EXPORT, INFO, TOOLS, judge, outcome, run

@@ -82,7 +82,7 @@ def judge_frames(work: Path, recording: Path, origins: Optional[list[tuple]]) ->
         flags = [it.fcs_wrong + 2 * it.has_frame_error for it in found]
         judge_quietly(f"flags of {channel}", flags == [it.marks for it in feed])
         wanted = [moment_by(origins, it.counter) for it in feed]
-        judge_quietly(f"times of {channel}", [it.time for it in found] == wanted)
+        judge_quietly(f"times of {channel}", [it.time_ns for it in found] == wanted)
         count += len(feed)
     judge_quietly("all of them", len(list(opened)) == count)
     return count
@@ -100,7 +100,7 @@ def seen_by_time(opened: bpfrec.Recording) -> list[Seen]:
     found = []
     for frame in opened.frames(by_time=True):
         flags = 4 << 5 | frame.fcs_wrong << 24 | frame.has_frame_error << 31
-        moment = frame.counter * 100 if frame.time is None else frame.time
+        moment = frame.counter * 100 if frame.time_ns is None else frame.time_ns
         is_marked = frame.fcs_wrong or frame.has_frame_error
         found.append(Seen(number[frame.channel], moment, frame.bytes, flags if is_marked else 0))
     return found
@@ -203,7 +203,7 @@ def test_times_of_whole_files_are_those_of_check_sums(work: Path, turn: int) -> 
     wanted = [(int(it[1]), it[0], int(it[2])) for it in lines if it[0].startswith("20")]
     found = []
     for frame in bpfrec.open(path):
-        seconds, rest = divmod(frame.time or 0, 10**9)
+        seconds, rest = divmod(frame.time_ns or 0, 10**9)
         text = (frame.datetime or pytest.fail("a frame has no time")).strftime("%Y-%m-%dT%H:%M:%S")
         found.append((frame.channel, f"{text}.{rest // 100:07}Z", len(frame.bytes)))
     judge(f"{len(found)} frames", found == wanted, (found[:3], wanted[:3]))

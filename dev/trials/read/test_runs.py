@@ -6,7 +6,7 @@ from pathlib import Path
 
 import bpfrec
 import pytest
-from bpfrec_host.formats.runs import all_of
+from bpfrec.formats.names import all_of
 from expected_facts import facts_of_run
 from several_recorders import recording_at
 from support import CHECK, EXPORT, INFO, TOOLS, judge, judge_quietly, outcome, run
@@ -70,10 +70,12 @@ def test_export_makes_one_capture_of_all(flight: Path, work: Path) -> None:
     judge("the same capture", (work / "run.pcapng").read_bytes() == (work / "parts.pcapng").read_bytes())
 
 
-def test_a_whole_file_of_a_run_is_refused_with_a_way_out(flight: Path, work: Path) -> None:
-    done = outcome(EXPORT, flight, work / "run.ch10")
-    why = "as recordings of a run are: each gets a file of its own, and a capture takes all"
-    judge("it says so", done.returncode == 1 and why in done.stderr and not (work / "run.ch10").exists(), done)
+def test_export_makes_one_whole_file_of_all(flight: Path, work: Path) -> None:
+    run(EXPORT, flight, work / "run.ch10")
+    run(EXPORT, *parts_of(flight), work / "parts.ch10")
+    judge("the same file", (work / "run.ch10").read_bytes() == (work / "parts.ch10").read_bytes())
+    done = outcome(CHECK, work / "run.ch10")
+    judge("which is right", done.returncode == 0 and done.stdout.endswith("\nyes\n"), done)
 
 
 def test_check_has_one_answer_and_sees_what_is_missing(flight: Path) -> None:

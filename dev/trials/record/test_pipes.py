@@ -225,7 +225,7 @@ def test_a_second_recorder_on_one_out_is_refused(work: Path, short_feed: Path) -
 
 
 def test_ctrl_c_ends_recorder_and_feeder_well(work: Path, short_feed: Path) -> None:
-    """Ctrl-C to a recorder that was started as docs/user/using/record.md says, and to what feeds it."""
+    """Ctrl-C to a recorder that was started as docs/user/using/feeds.md says, and to what feeds it."""
     os.mkfifo(work / "wire.feed")
     settings = write_settings(work, ["wire.feed"], ["all"])
     out, report = work / "wire.ch11", work / "wire.report"

@@ -7,7 +7,7 @@ import subprocess
 from pathlib import Path
 
 import pytest
-from bpfrec_host import VERSION, verbs
+from bpfrec_tools import VERSION, verbs
 from reading import SAMPLES
 from support import BPFREC, COMMAND, KEEPS_ALL, ROOT, judge, judge_quietly, outcome, run, wait_for
 

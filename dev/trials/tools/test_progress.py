@@ -12,7 +12,7 @@ from pathlib import Path
 from typing import Any
 
 import pytest
-from bpfrec_host import progress
+from bpfrec_tools.cli.quantities import duration_text, size_text
 from frames import FRAMES, body_of, end_packet, numbered, packet_of, program_packet, with_check_sequence
 from support import EXPORT, INFO, ROOT, SALVAGE, SECONDS, judge, outcome, pipe_at, present
 
@@ -21,7 +21,8 @@ WANTED = {"bin/bpfrec": "make build"}
 AT_ONCE = """
 import sys
 sys.path.insert(0, "host")
-from bpfrec_host import __main__, progress
+from bpfrec_tools import __main__
+from bpfrec_tools.cli import progress
 progress.FIRST_AFTER = progress.BETWEEN = 0.0
 sys.argv = sys.argv[1:]
 sys.exit(__main__.run_tool(sys.argv[0]))
@@ -74,7 +75,7 @@ def test_a_terminal_shows_bytes_rate_and_time_left(work: Path, recording: Path, 
     pipe."""
     words = words_of(recording, work)[tool]
     status, told, printed = at_terminal(sys.executable, "-c", AT_ONCE, *words)
-    line = rf"{re.escape(EMPTIED)}(\w+): ([\d.]+ [kM]?B of 4\.\d\d MB) \((\d+) %\), [\d.]+ [kMG]?B/s(, \d+:\d\d left)?"
+    line = rf"{re.escape(EMPTIED)}(\w+): ([\d.]+ [kM]?B of 4\.\d MB) \((\d+) %\), [\d.]+ [kMG]?B/s(, \d+ s left)?"
     found = re.findall(line, told)
     judge(f"{tool} shows its progress", status == 0 and len(found) > 2, (status, told[-500:]))
     shares = [int(it[2]) for it in found if it[0] == found[-1][0]]
@@ -137,7 +138,7 @@ def test_a_dumb_terminal_gets_no_progress(work: Path, recording: Path) -> None:
 
 
 def test_sizes_and_times_are_short_texts() -> None:
-    sizes = [(999, "999 B"), (1_000, "1.00 kB"), (12_345, "12.3 kB"), (999_000_000, "999 MB"), (5.1e12, "5.10 TB")]
-    judge("sizes", all(progress.size_text(size) == text for size, text in sizes))
-    times = [(0, "0:00"), (7.4, "0:07"), (61, "1:01"), (3_723, "1:02:03")]
-    judge("times", all(progress.time_text(seconds) == text for seconds, text in times))
+    sizes = [(999, "999 B"), (1_000, "1.0 kB"), (12_345, "12.3 kB"), (999_000_000, "999 MB"), (5.1e12, "5.1 TB")]
+    judge("sizes", all(size_text(size) == text for size, text in sizes))
+    times = [(0, "0 s"), (7.4, "7 s"), (61, "1 min 1 s"), (3_723, "1 h 2 min")]
+    judge("times", all(duration_text(seconds) == text for seconds, text in times))

@@ -7,7 +7,7 @@ import struct
 from pathlib import Path
 
 import pytest
-from bpfrec_host.publish.datagrams import Datagrams
+from bpfrec_tools.publish.datagrams import Datagrams
 from frames import FRAMES
 from ground import drawn_flight, stream_of
 from pcapng import MICROSECONDS, capture_head, captured

@@ -265,8 +265,18 @@ document, which bpfrec export --print-setup makes of the facts beside a recordin
   id = 1                           1 to 65535
   name = \"channel\"                 its name
   net = 0                          its network identifier, 0 to 255
-Only the origin and each id must be set; the values above are the others' defaults. Prints on standard
-output
+Only the origin and each id must be set; the values above are the others' defaults.
+
+Of several recordings, up to 1,024, it writes one file of their time:
+  bpfrec chapter11 <RECORDING>... <SETUP> <OUT>
+SETUP then has a table for each RECORDING, in their order, in place of origin, origins and channel:
+  [[recording]]
+  origin = \"1764590400.25\"         or origins, as above
+  after = 0                        the place, from 0, of the one that it follows in its run, if it does
+  [[recording.channel]]            the channels of this RECORDING, as above
+A channel keeps its ID, unless an earlier RECORDING of another run has one of the same ID.
+
+Prints on standard output
   times <n> packets <n> records <n> index <n> bytes <n>
 with the numbers of time packets, of packets of frames, of filters and ends, and of index packets; or why
 there can be no such file, with the place of the packet in RECORDING:
@@ -276,9 +286,13 @@ there can be no such file, with the place of the packet in RECORDING:
   refused 4 Origin 0               no time packet has a place
   refused 5 Year 0                 a time outside of the years 1 to 3999
   refused 7 Full 0                 no channel ID is left for the time
+  refused 8 Part <at>              a RECORDING of a run has no right filters or ends, as audit would say
+  refused 9 Sum <at>               a version, or a number of frames, of a run is too great
+Where SETUP has [[recording]], a second number follows: the place of that RECORDING among the arguments,
+counted from 0.
 An OUT that exists is overwritten, unless it is RECORDING or SETUP. Of a recording that is refused, or
-that can't be read to its end, which is reported as by list, OUT is not created. A fault of SETUP is
-reported on standard error:
+that can't be read to its end, which is reported as by list, with its place behind it if there are
+several, OUT is not created. A fault of SETUP is reported on standard error:
   setup <number> <Name> [<key>]    Syntax, Unknown, Missing or Value
 
 In place of RECORDING, SETUP and OUT, --stream SETUP reads a recording on standard input as it grows, and

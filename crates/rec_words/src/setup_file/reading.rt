@@ -1,9 +1,9 @@
 //! Reads the setup of a Chapter 11 file from a TOML document.
 
-ghost use Rattle.std.specs.Prelude.{◌≡◌, ◌≤◌, None, Ok, IfOk, IfSome, MatchResult, codes, length};
+ghost use Rattle.std.specs.Prelude.{◌≡◌, ◌≤◌, None, Ok, IfOk, IfSome, MatchResult, codes, false, length};
 ghost use Rattle.toml.specs.Data.{get_member};
 ghost use Rattle.toml.specs.View.{table_view};
-ghost use Rattle.rec_words.specs.SetupFile.{setup_file, file_in, file_by, general_in};
+ghost use Rattle.rec_words.specs.SetupFile.{setup_file, file_in, file_by, general_in, has_tables, says_tables};
 ghost use Rattle.rec_words.specs.SetupViews.{file_data, general_data, SetupReports};
 ghost use Rattle.rec_words.specs.KeyViews.{KeyReports};
 
@@ -34,6 +34,7 @@ pub fn setup_of(alloc: Global, text: &str, recordings: usize) -> Result<FileSett
         (λ found. setup_file recordings text.now ≡ Ok (file_data found))
         (SetupReports (setup_file recordings text.now)) }
     ensures as_many { IfOk result (λ found. length found.recordings.items ≡ recordings) }
+    ensures tables { IfOk result (λ found. found.has_tables ≡ says_tables text.now) }
 {
     match toml::table_from_str(alloc, text) {
         Ok(table) => Ok(file_in(alloc, &table, recordings)?),
@@ -48,6 +49,7 @@ fn file_in(alloc: Global, table: &Table, count: usize) -> Result<FileSettings, K
         (λ found. file_in count (table_view table.now) ≡ Ok (file_data found))
         (KeyReports (file_in count (table_view table.now))) }
     ensures as_many { IfOk result (λ found. length found.recordings.items ≡ count) }
+    ensures tables { IfOk result (λ found. found.has_tables ≡ has_tables (table_view table.now)) }
 {
     only(
         alloc,
@@ -83,12 +85,14 @@ fn file_by(
         (KeyReports (file_by count unknown (table_view table.now)
         (get_member (codes "recording") (table_view table.now)))) }
     ensures as_many { IfOk result (λ found. length found.recordings.items ≡ count) }
+    ensures tables { IfOk result (λ found. found.has_tables ≡ has_tables (table_view table.now)) }
 {
     match value_at(table, "recording") {
         None => file_of_one(alloc, table, unknown, count),
         Some(value) => Ok(FileSettings {
             recordings: recordings_from(alloc, table, value, unknown, count)?,
             general: general_in(alloc, table)?,
+            has_tables: true,
         }),
     }
 }
@@ -105,6 +109,7 @@ fn file_of_one(
         (λ found. file_by count unknown (table_view table.now) None ≡ Ok (file_data found))
         (KeyReports (file_by count unknown (table_view table.now) None)) }
     ensures as_many { IfOk result (λ found. length found.recordings.items ≡ count) }
+    ensures tables { IfOk result (λ found. found.has_tables ≡ false) }
 {
     if count != 1 {
         return Err(KeyFault::Missing { key: "recording" });
@@ -119,6 +124,7 @@ fn file_of_one(
     Ok(FileSettings {
         recordings: vec![in alloc; recording]?,
         general,
+        has_tables: false,
     })
 }
 

@@ -4,11 +4,11 @@ from __future__ import annotations
 
 import argparse
 
-from bpfrec_host import printing
-from bpfrec_host.arguments import Parser, natural
-from bpfrec_host.formats.limits import CHECK_SEQUENCE_LEN, MAX_FRAME_LEN, MIN_FRAME_LEN
-from bpfrec_host.formats.moments import moment_of
-from bpfrec_host.streams import Refused
+from bpfrec.formats.limits import CHECK_SEQUENCE_LEN, MAX_FRAME_LEN, MIN_FRAME_LEN
+from bpfrec_tools.cli import printing
+from bpfrec_tools.cli.arguments import Parser, natural
+from bpfrec_tools.cli.moments import moment_of
+from bpfrec_tools.cli.streams import Refused
 from conversion.moments import origin_of
 from conversion.records import MIN_WIRE_LEN
 from conversion.runs import SHOWN_BYTES, from_pcap, show, to_pcap

@@ -4,10 +4,10 @@ from __future__ import annotations
 
 from typing import Callable, Optional
 
-from bpfrec_host import printing
-from bpfrec_host.formats.limits import NANOSECONDS_A_SECOND, NANOSECONDS_A_TICK
-from bpfrec_host.formats.moments import moment_of
-from bpfrec_host.streams import STREAM, Refused, Unreadable, identity
+from bpfrec.formats.limits import NANOSECONDS_A_SECOND, NANOSECONDS_A_TICK
+from bpfrec_tools.cli import printing
+from bpfrec_tools.cli.moments import moment_of
+from bpfrec_tools.cli.streams import STREAM, Refused, Unreadable, identity
 from conversion.streams import Input
 
 
@@ -24,7 +24,7 @@ def moments_by_origin(origin: int) -> Callable[[int], Optional[int]]:
 def moments_by_facts(path: str, feed: str) -> Callable[[int], Optional[int]]:
     """The moment of each counter of a feed, by the facts of a recording; None before their first origin."""
     # Here, since most conversions need no facts.
-    from bpfrec_host.formats import facts
+    from bpfrec.formats import facts
 
     if path == feed == STREAM or identity(path, 0) is not None and identity(path, 0) == identity(feed, 0):
         raise Refused(f"{'standard input' if STREAM in (path, feed) else path} can't be the feed and the facts")

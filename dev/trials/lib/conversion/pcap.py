@@ -5,9 +5,9 @@ from __future__ import annotations
 import struct
 from typing import Any, Callable, Iterator, Optional
 
-from bpfrec_host.formats.limits import CHECK_SEQUENCE_LEN, NANOSECONDS_A_SECOND
-from bpfrec_host.formats.pcapng_blocks import LINK_TYPE_ETHERNET
-from bpfrec_host.streams import Refused
+from bpfrec.formats.limits import CHECK_SEQUENCE_LEN, NANOSECONDS_A_SECOND
+from bpfrec.formats.pcapng_blocks import LINK_TYPE_ETHERNET
+from bpfrec_tools.cli.streams import Refused
 from conversion.streams import Input
 
 # What is captured beside Ethernet, mostly.

@@ -5,8 +5,8 @@ from __future__ import annotations
 import struct
 from typing import Iterator, Optional
 
-from bpfrec_host.formats.limits import CHECK_SEQUENCE_LEN, MARK_CHECK_SEQUENCE, MARK_OTHER_FAULT, NANOSECONDS_A_SECOND
-from bpfrec_host.formats.pcapng_blocks import (
+from bpfrec.formats.limits import CHECK_SEQUENCE_LEN, MARK_CHECK_SEQUENCE, MARK_OTHER_FAULT, NANOSECONDS_A_SECOND
+from bpfrec.formats.pcapng_blocks import (
     BLOCK_HEAD_LEN,
     BLOCK_TAIL_LEN,
     BYTE_ORDER_MAGIC,
@@ -18,7 +18,7 @@ from bpfrec_host.formats.pcapng_blocks import (
     PACKET_BLOCK,
     SECTION_BLOCK,
 )
-from bpfrec_host.streams import Refused
+from bpfrec_tools.cli.streams import Refused
 from conversion.pcap import MAX_CAPTURED_LEN, Captured, judge_check_sequence_len, judge_link_type
 from conversion.streams import Input
 

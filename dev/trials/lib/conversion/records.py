@@ -6,9 +6,9 @@ import struct
 import zlib
 from typing import Iterator, NamedTuple
 
-from bpfrec_host.formats.feed import RECORD_HEAD, head_fault
-from bpfrec_host.formats.limits import MAX_COUNTER, MAX_FRAME_LEN, MAX_MARKS, MIN_FRAME_LEN, RECORD_HEAD_LEN
-from bpfrec_host.streams import Output, Refused
+from bpfrec.formats.feed import RECORD_HEAD, head_fault
+from bpfrec.formats.limits import MAX_COUNTER, MAX_FRAME_LEN, MAX_MARKS, MIN_FRAME_LEN, RECORD_HEAD_LEN
+from bpfrec_tools.cli.streams import Output, Refused
 from conversion.streams import Input
 
 CHECK_SEQUENCE = struct.Struct("<I")

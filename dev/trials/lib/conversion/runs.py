@@ -8,10 +8,9 @@ import zlib
 from contextlib import suppress
 from typing import Iterator, Optional
 
-from bpfrec_host import printing
-from bpfrec_host.formats.feed import RECORD_HEAD
-from bpfrec_host.formats.guesses import begins_recording
-from bpfrec_host.formats.limits import (
+from bpfrec.formats.feed import RECORD_HEAD
+from bpfrec.formats.guesses import begins_recording
+from bpfrec.formats.limits import (
     CHECK_SEQUENCE_LEN,
     HEADER_LEN,
     MARK_CHECK_SEQUENCE,
@@ -21,8 +20,9 @@ from bpfrec_host.formats.limits import (
     NANOSECONDS_A_SECOND,
     NANOSECONDS_A_TICK,
 )
-from bpfrec_host.progress import Progress, size_of
-from bpfrec_host.streams import PARTS_A_WRITE, STREAM, Refused
+from bpfrec_tools.cli import printing
+from bpfrec_tools.cli.progress import Progress, size_of
+from bpfrec_tools.cli.streams import PARTS_A_WRITE, STREAM, Refused
 from conversion import pcap, pcapng
 from conversion.moments import captured_time, moments_by_facts, moments_by_origin
 from conversion.pcap import Captured

@@ -6,7 +6,7 @@ import os
 import stat
 from typing import Callable, Optional
 
-from bpfrec_host.streams import STREAM, Output, Refused, input_at
+from bpfrec_tools.cli.streams import STREAM, Output, Refused, input_at
 
 READ_LEN = 1 << 18
 

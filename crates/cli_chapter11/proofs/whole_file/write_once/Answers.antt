@@ -1,9 +1,11 @@
 use Rattle.std.proofs.Common.{List, refl, subst, inl, inr, ◌∙◌, map, ap}
 use Rattle.std.proofs.KnownBytes.{Appends-nil}
+use Rattle.std.specs.Option.{option_map}
 use Rattle.std.proofs.lemmas.Result.{err_from_is_err_and}
 use Rattle.ch11_clock.specs.declared.origin.Origin.{Origin}
 use Rattle.ch11_index.specs.declared.index.TheConstants.{MOST_NAMED}
 use Rattle.ch11_setup.specs.Setups.{given_attribute}
+use Rattle.rec_pieces.specs.Entries.{places_of}
 use Rattle.rec_whole.specs.WholeRecordings.{WholeFails, WritesRecording}
 use Rattle.rec_words.specs.SetupViews.{attribute_data, recording_data, setup_channel_data}
 use Rattle.cli_chapter11.specs.WholeFiles.{channel_said}
@@ -37,7 +39,8 @@ returns-in-Ok g c = λ bytes packets known reads lists. (
   subst (λ (rules : List Origin). WritesRecording packets c.names_of-names.result rules MOST_NAMED (g.W.Write.contents c.args.output)
       (g.W.Write.contents c.write_whole_file-written.new.out.out) c.in-Ok.counts)
       (clock_of_setup c.args.whole.now.recording.now c.in_ok-clock.clock _ c.in_ok-clock.ensures.held c.as_slice-3.ensures.value)
-      (c.in-Ok.ensures bytes packets known reads lists),
+      (c.in-Ok.ensures (places_of bytes) packets (c.new-packets.ensures ∙ ap (option_map places_of) known)
+      (c.packets_are_read_at_their_places.ensures bytes packets reads) lists),
 )
 
 pub returns : goal.returns
@@ -50,6 +53,7 @@ returns g c = (
     subst (λ (rules : List Origin). WholeFails packets c.names_of-names.result rules MOST_NAMED (g.W.Write.contents c.args.output)
         (g.W.Write.contents c.write_whole_file-written.new.out.out) c.in-Err.end)
         (clock_of_setup c.args.whole.now.recording.now c.in_ok-clock.clock _ c.in_ok-clock.ensures.held c.as_slice-3.ensures.value)
-        (c.in-Err.ensures bytes packets known reads lists),
+        (c.in-Err.ensures (places_of bytes) packets (c.new-packets.ensures ∙ ap (option_map places_of) known)
+        (c.packets_are_read_at_their_places.ensures bytes packets reads) lists),
   ),
 )

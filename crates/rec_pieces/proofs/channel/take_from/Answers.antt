@@ -7,7 +7,7 @@ use Rattle.rec_pieces.proofs.channel.take_from.Goals as goal
 
 pub returns-in_ok-hand-in-Frames-clause-taken : goal.returns-in_ok-hand-in-Frames-clause-taken
 returns-in_ok-hand-in-Frames-clause-taken g c =
-    last_taken (g.F.PlacedRead.held c.args.file.now) (pieces_to_come c.args.entries.now c.args.next.now)
+    last_taken (g.P.PacketsAt.there c.args.packets.now) (pieces_to_come c.args.entries.now c.args.next.now)
     (pieces_to_come c.args.entries.now c.next_in_hand.new.next) (pieces_held c.in_ok-hand-in-Frames.hand) c.args.tick (hand_pieces c.args.hand)
     (owned_data c.in_ok-piece-in-Frames.piece) c.take.new.self
     c.in_ok-hand-in-Frames.ensures.pieces

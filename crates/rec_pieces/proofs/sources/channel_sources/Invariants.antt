@@ -7,4 +7,4 @@ use Rattle.rec_pieces.proofs.sources.channel_sources.Given as goal
 -- the sources so far
 abbrev pub invariant-channels : goal.invariant-channels
 invariant-channels g l =
-    IfSome (g.F.PlacedRead.held l.file) (λ bytes. SayLeft source_left l.sources.items (map (left_of bytes l.listing) (take l.k l.channels.items)))
+    IfSome (g.P.PacketsAt.there l.packets) (λ places. SayLeft source_left l.sources.items (map (left_of places l.listing) (take l.k l.channels.items)))

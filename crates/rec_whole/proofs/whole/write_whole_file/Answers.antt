@@ -18,7 +18,7 @@ write_with_setup-requires-clause-number g c =
     c.in_ok-channels.ensures)))
 
 pub returns : goal.returns
-returns g c = λ recording packets is reads had. (
+returns g c = λ places packets is read had. (
     let names = c.args.names.now in
     let none : other_of packets ≡ None = search in
     let setup = c.file_setup-setup.result in
@@ -35,4 +35,4 @@ returns g c = λ recording packets is reads had. (
     } in
     whole_of packets names c.args.clock.now c.args.most (g.W.Write.contents c.args.out.now)
     (g.W.Write.contents c.write_with_setup.new.out) setup none is_setup c.write_with_setup.result
-    (c.write_with_setup.ensures recording packets is reads had))
+    (c.write_with_setup.ensures places packets is read had))

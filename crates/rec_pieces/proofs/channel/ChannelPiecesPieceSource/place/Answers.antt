@@ -8,11 +8,11 @@ use Rattle.rec_pieces.proofs.channel.ChannelPiecesPieceSource.place.Goals as goa
 
 pub place-requires : goal.place-requires
 place-requires g c =
-    some_in_source (g.F.PlacedRead.held c.self.inside.file.now) c.self.inside.entries.now c.self.inside.next c.self.inside.hand c.in-Some.hand
+    some_in_source (g.P.PacketsAt.there c.self.inside.packets.now) c.self.inside.entries.now c.self.inside.next c.self.inside.hand c.in-Some.hand
     (sym c.in-Some.is) c.self.invariant (subst (λ (s : SourceState). stands_by s.left s.head ≢ End) (sym c.self.view_is) c.requires)
 
 pub returns : goal.returns
 returns g c =
     subst (λ (s : SourceState). IfSome s.left (λ pieces. StandsFirst pieces c.place.result)) c.self.view_is
-    (first_in_source (g.F.PlacedRead.held c.self.inside.file.now) c.self.inside.entries.now c.self.inside.next c.place.result c.self.inside.hand
+    (first_in_source (g.P.PacketsAt.there c.self.inside.packets.now) c.self.inside.entries.now c.self.inside.next c.place.result c.self.inside.hand
     c.in-Some.hand (sym c.in-Some.is) c.place.ensures)

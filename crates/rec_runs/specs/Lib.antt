@@ -1,0 +1,9 @@
+pub mod FilePrograms
+pub mod ProgramMoves
+pub mod RunSayings
+pub mod RunSums
+pub mod RunStates
+pub mod RunsRead
+pub mod Moves
+pub mod ToldData
+pub mod RisingVersions

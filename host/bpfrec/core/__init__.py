@@ -1,0 +1,1 @@
+"""What a recording has, and the order of the frames of several."""

@@ -1,1 +1,0 @@
-"""The formats that the tools read and write, a module each."""

@@ -1,1 +1,0 @@
-"""bpfrec export: frames of recordings as one capture in pcapng."""

@@ -1,0 +1,162 @@
+"""The command line of bpfrec check."""
+
+from __future__ import annotations
+
+import argparse
+import os
+import shutil
+import stat
+import tempfile
+from typing import Optional
+
+from bpfrec.formats.names import all_of, facts_path
+from bpfrec_tools.check.judge import Judge
+from bpfrec_tools.check.order import in_order
+from bpfrec_tools.check.verifier import verifier_of
+from bpfrec_tools.cli import printing
+from bpfrec_tools.cli.arguments import Parser, name_of
+from bpfrec_tools.cli.program import audit_of
+from bpfrec_tools.cli.streams import STREAM, Taken, identity, input_at, refuse_twice
+from second.sums import check_sums
+
+ABOUT = """\
+Says yes or no of recordings, of a run or of whole Chapter 11 files: whether each is what it says. It judges the sums of
+all packets, the facts beside the recording, and what `bpfrec audit` answers. The last line is `yes` or `no`.
+
+  bpfrec check flight.ch11
+  bpfrec check --signers allowed_signers flight.ch11
+
+FILE is a recording or a whole Chapter 11 file, `-` standard input, or the name of a run, which is all its recordings. Of
+several FILES each begins with a line `recording <FILE>`, and they are judged by run and number, as their names have them
+(flight_00003.ch11), in whichever folders they are.
+
+The facts beside FILE, FILE.json, are judged if they are there, or are asked for by --signers or by more than one FILE:
+  hash right | hash none: <why> | hash wrong: <SHA-256>, the facts say <SHA-256>
+  length wrong: <bytes>, the facts say <bytes>
+  name wrong: the facts are of <name>
+  before right: <name> | before none | before not given: <name> | before unknown: <why> | before wrong: <why>
+  signature right: <signer> | signature none | signature wrong: <why>
+  facts wrong: <why>
+`before` is the recording before in the same run, which has to be the FILE of that run that is given before this one; of
+the first FILE of each run it isn't asked for. So a recording that is missing in the middle is said. One that is missing
+at the end of a run that was given by its name is said by the facts of the one before it:
+  next missing: <name>
+
+Then it prints a line for each packet that is wrong, with the place of its first byte:
+  <at> data checksum <hex>, the words add up to <hex>     the packets behind it are checked too
+  <at> header checksum <hex>, the words add up to <hex>   and here the reading ends, as at the next three
+  <at> no sync pattern
+  <at> lengths <packet length> <data length>
+  <at> cut
+and the counts, where <k> packets have no data checksum of 32 bits, or a secondary header:
+  packets <n> data checksums <m> without <k> wrong <w>
+
+Of a file that begins with a setup record, which is a whole Chapter 11 file, setup record, time packets, order and index
+are checked too; a line `<at> <what>` says what is wrong. Of an empty file it prints `empty: there is no packet`.
+
+At last stands `audit: <answer>`, or `audit: not asked: <why>`, which is wrong.
+"""
+MORE = """\
+With --signers the facts must be signed, as live --sign does it, by one of SIGNERS: a file of allowed signers, as
+ssh-keygen(1) has it. No hash and no signature are wrong then.
+
+The sums are judged by code of their own, written from the format's page, which no other tool has.
+
+It runs bpfrec: what BPFREC names, or the one beside it.
+
+Status: 0 yes, 1 no, 2 the arguments are wrong, 3 a file can't be read or printed, 4 out of memory, 130 interrupted.
+"""
+
+
+def parser() -> Parser:
+    """The arguments of bpfrec check."""
+    made = Parser(prog=name_of("check"), description=ABOUT, epilog=MORE)
+    made.add_argument("--signers", metavar="SIGNERS", help="a file of those who may sign facts")
+    made.add_argument("--identity", metavar="NAME", help="who of them must have signed; without it anybody of them")
+    made.add_argument("--no-audit", action="store_true", help="leaves the audit out")
+    made.add_argument("--quiet", action="store_true", help="shows no progress on a terminal")
+    made.add_argument("files", metavar="FILE", nargs="+")
+    return made
+
+
+def say(line: str) -> None:
+    """Prints a line."""
+    printing.out(f"{line}\n")
+
+
+def audit_is_right(path: str, is_quiet: bool) -> bool:
+    """Prints what the audit says of a file; whether that is a yes."""
+    audit = audit_of(path, is_quiet)
+    say(f"audit: {audit}")
+    return audit.is_yes()
+
+
+def is_right(path: str, judge: Optional[Judge], given: argparse.Namespace) -> bool:
+    """Judges a file, and the facts beside it where they are asked for; whether all is right."""
+    are_right = judge is None or judge.judge(path, path in given.last)
+    if judge and not stat.S_ISREG(os.stat(path).st_mode):
+        say("sums none: it is no regular file")
+        return False
+    with open(path, "rb") as file:
+        are_right = check_sums(file, say) and are_right
+    return (given.no_audit or audit_is_right(path, given.quiet)) and are_right
+
+
+def standard_input_is_right(given: argparse.Namespace) -> bool:
+    """The same of standard input, which is copied, since it is read more than once."""
+    with tempfile.TemporaryFile() as copy:
+        with open(0, "rb", closefd=False) as stream:
+            shutil.copyfileobj(stream, copy)
+        copy.flush()
+        return is_right(f"/proc/self/fd/{copy.fileno()}", None, given)
+
+
+def judge_of(given: argparse.Namespace) -> Optional[Judge]:
+    """What judges the facts beside recordings; None where there are none, and nobody asks for them."""
+    is_asked = given.signers is not None or len(given.files) > 1
+    if not is_asked and (given.files[0] == STREAM or not os.path.lexists(facts_path(given.files[0]))):
+        return None
+    return Judge(None if given.signers is None else verifier_of(given.signers, given.identity), say)
+
+
+def refuse_outputs(paths: list[str]) -> None:
+    """Refuses a FILE that is standard output, into which lines would be written."""
+    taken = input_at(STREAM, paths)
+    if taken:
+        raise Taken(f"{STREAM}: it is {taken} itself")
+
+
+def arguments_of(arguments: list[str]) -> argparse.Namespace:
+    """The arguments, where they go together, with the recordings of runs in the places of their names."""
+    made = parser()
+    given = made.parse_args(arguments)
+    if STREAM in given.files and (len(given.files) > 1 or given.signers is not None):
+        made.error("standard input has no facts beside it")
+    if given.identity is not None and given.signers is None:
+        made.error("--identity needs --signers")
+    runs = [(it, in_order(all_of(it))) for it in given.files]
+    paths = [path for _, run in runs for path in run]
+    # The last recordings of the runs that are given by their names.
+    given.last = {run[-1] for name, run in runs if run != [name]}
+    refuse_twice(it for it in paths if identity(it, 0))
+    given.files = in_order(paths)
+    return given
+
+
+def check_all(given: argparse.Namespace) -> bool:
+    """Judges all files; whether all is right."""
+    refuse_outputs(given.files)
+    judge, are_right = judge_of(given), True
+    for path in given.files:
+        if len(given.files) > 1:
+            say(f"recording {path}")
+        found = standard_input_is_right(given) if path == STREAM else is_right(path, judge, given)
+        are_right = found and are_right
+    return are_right
+
+
+def run(arguments: list[str]) -> int:
+    """Judges recordings: the status."""
+    answer = check_all(arguments_of(arguments))
+    say("yes" if answer else "no")
+    return 0 if answer else 1

@@ -1,0 +1,1 @@
+"""What the commands share: arguments, streams, what is printed, and how programs are run."""

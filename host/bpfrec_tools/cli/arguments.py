@@ -1,0 +1,63 @@
+"""A tool's name and arguments, as its command line has them."""
+
+from __future__ import annotations
+
+import argparse
+import difflib
+from collections.abc import Iterable
+from typing import IO, NoReturn, Optional
+
+from bpfrec.formats.limits import MAX_CHANNEL_ID
+from bpfrec_tools.cli import printing
+
+# What argparse says of options and words that nobody takes.
+UNKNOWN = "unrecognized arguments: "
+
+
+def name_of(tool: str) -> str:
+    """How a tool is called, and what begins each line that it prints of itself."""
+    return f"bpfrec {tool}"
+
+
+def nearest(word: str, known: Iterable[str]) -> str:
+    """What a line about an unknown word ends in: the known one that is most like it, if any is."""
+    found = difflib.get_close_matches(word.partition("=")[0], list(known), 1)
+    return f": did you mean {found[0]}?" if found else ""
+
+
+class Parser(argparse.ArgumentParser):
+    """A parser that keeps the lines of a tool's help as they are written, and whose help fails as all else that is
+    printed does, where standard output can't take it. Options stand anywhere, and each is written whole."""
+
+    def __init__(self, **more: object) -> None:
+        more.setdefault("formatter_class", argparse.RawDescriptionHelpFormatter)
+        more.setdefault("allow_abbrev", False)
+        super().__init__(**more)  # type: ignore[arg-type]
+
+    def print_help(self, file: Optional[IO[str]] = None) -> None:
+        """Prints the help on standard output."""
+        printing.out(self.format_help())
+
+    def error(self, message: str) -> NoReturn:
+        """Says what is wrong with the arguments, and ends."""
+        if message.startswith(UNKNOWN):
+            words = message[len(UNKNOWN) :].split()
+            options = [it for action in self._actions for it in action.option_strings]
+            message = f"no such option: {words[0]}{nearest(words[0], options)}" if words[0][0] == "-" else message
+        printing.err(f"{self.format_usage()}{self.prog}: error: {message}")
+        self.exit(2)
+
+
+def channel_id(word: str) -> int:
+    """The channel ID that a word is."""
+    number = natural(word)
+    if number > MAX_CHANNEL_ID:
+        raise argparse.ArgumentTypeError(f"{word} is no channel ID, 0 to {MAX_CHANNEL_ID}")
+    return number
+
+
+def natural(word: str) -> int:
+    """The number that decimal digits are."""
+    if not word.isascii() or not word.isdigit():
+        raise argparse.ArgumentTypeError(f"{word} is no number")
+    return int(word)

@@ -1,0 +1,192 @@
+"""Files and pipes that are read and written: which are refused, and how what is written gets to its disk."""
+
+from __future__ import annotations
+
+import errno
+import os
+import shutil
+import stat
+import tempfile
+from typing import BinaryIO, Iterable, Optional, cast
+
+from bpfrec.formats import facts
+from bpfrec.formats.facts import Facts
+from bpfrec.formats.held import File
+from bpfrec.formats.names import facts_path
+from bpfrec_tools.cli import printing
+from bpfrec_tools.cli.ending import Refused as Refused
+
+# So many parts at most wait for a write.
+PARTS_A_WRITE = 256
+
+
+def force(out: BinaryIO) -> None:
+    """Forces a file to its disk; a pipe or a device that says that it can't be is skipped."""
+    out.flush()
+    force_descriptor(out.fileno())
+
+
+def force_descriptor(descriptor: int) -> None:
+    """The same, of an open file whose bytes were written."""
+    try:
+        os.fsync(descriptor)
+    except OSError as error:
+        if error.errno != errno.EINVAL:
+            raise
+
+
+def force_folder(folder: str) -> None:
+    """Forces a folder to its disk, so that a new file's name is there; one that may not be read can't be forced."""
+    try:
+        descriptor = os.open(folder, os.O_RDONLY | os.O_DIRECTORY)
+    except PermissionError:
+        return
+    try:
+        force_descriptor(descriptor)
+    finally:
+        os.close(descriptor)
+
+
+def force_folder_of(path: str) -> None:
+    """Forces the folder of a new file to its disk."""
+    force_folder(os.path.dirname(os.path.realpath(path)))
+
+
+class Unreadable(Refused):
+    """Facts that can't be read."""
+
+    status = 3
+
+
+class Taken(Refused):
+    """An output that exists, and that may not be overwritten."""
+
+    status = 3
+
+
+STREAM = "-"
+
+
+def identity(path: str, stream: int) -> Optional[tuple[int, int]]:
+    """What tells a file or a pipe from all others, by its path or as a standard stream; None of a device, and where
+    there is nothing."""
+    try:
+        found = os.fstat(stream) if path == STREAM else os.stat(path)
+    except (OSError, ValueError):
+        return None
+    is_kept = stat.S_ISREG(found.st_mode) or stat.S_ISFIFO(found.st_mode)
+    return (found.st_dev, found.st_ino) if is_kept else None
+
+
+def input_at(out: str, inputs: Iterable[str]) -> Optional[str]:
+    """The input that an output is, also by another name; `-` is standard output there and standard input here."""
+    taken = identity(out, 1)
+    return next((it for it in inputs if taken and identity(it, 0) == taken), None)
+
+
+def refuse_overwriting(out: str, is_forced: bool) -> None:
+    """Refuses a file that exists, unless it may be overwritten; a recording with its facts beside it may not."""
+    if out == STREAM or not os.path.isfile(out):
+        return
+    if os.path.exists(facts_path(out)):
+        raise Taken(f"{out} is a recording, with its facts beside it: give OUT another name")
+    if not is_forced:
+        raise Taken(f"{out} is there: give it another name, or --force")
+
+
+def refuse_twice(paths: Iterable[str]) -> None:
+    """Refuses a file that is given twice, also by another name."""
+    known: dict[tuple[int, int], str] = {}
+    for path in paths:
+        found = identity(path, 0)
+        if found in known:
+            raise Refused(f"{path}: it is given twice" + (f", as {known[found]} too" if known[found] != path else ""))
+        if found:
+            known[found] = path
+
+
+def readable(path: str) -> File:
+    """A file of which parts can be read: a regular one, or standard input, of which a pipe is copied into an unnamed
+    file first."""
+    if path == STREAM:
+        given = open(0, "rb", closefd=False)
+        return File(path, given if stat.S_ISREG(os.fstat(0).st_mode) else copied(given))
+    # Before it is opened, since a pipe would be waited for.
+    if not stat.S_ISREG(os.stat(path).st_mode):
+        raise Refused(f"{path}: it is no regular file, of which parts could be read")
+    return File(path, open(path, "rb"))
+
+
+def copied(given: BinaryIO) -> BinaryIO:
+    """An unnamed file that has what a pipe gives."""
+    made = cast(BinaryIO, tempfile.TemporaryFile())
+    shutil.copyfileobj(given, made)
+    made.seek(0)
+    return made
+
+
+def facts_at(path: str) -> Facts:
+    """The facts in a file, or on standard input."""
+    try:
+        return facts.read(0 if path == STREAM else path)
+    except OSError as error:
+        raise Unreadable(f"{path}: {error.strerror}") from None
+    except facts.NoFacts as fault:
+        raise Refused(f"{path}: no facts of a recording: {fault}") from None
+
+
+class Output:
+    """A file that is written in large pieces."""
+
+    def __init__(self, path: str, is_forced: bool = False) -> None:
+        self.name = path
+        self.parts: list[bytes] = []
+        refuse_overwriting(path, is_forced)
+        try:
+            self.descriptor = 1 if path == STREAM else self.create()
+        except OSError as fault:
+            raise Refused(f"{path}: {fault.strerror}") from None
+
+    def create(self) -> int:
+        """The descriptor of the file, which is emptied."""
+        is_new = not os.path.exists(self.name)
+        descriptor = os.open(self.name, os.O_WRONLY | os.O_CREAT | os.O_TRUNC, 0o666)
+        if is_new:
+            force_folder_of(self.name)
+        return descriptor
+
+    def write(self, part: bytes) -> None:
+        """Takes a part, which is written with others."""
+        self.parts.append(part)
+        if len(self.parts) >= PARTS_A_WRITE:
+            self.flush()
+
+    def flush(self) -> None:
+        """Writes all parts that were taken."""
+        left = memoryview(b"".join(self.parts))
+        self.parts.clear()
+        try:
+            while left:
+                left = left[os.write(self.descriptor, left) :]
+        except OSError as fault:
+            raise Refused(f"{self.name}: {fault.strerror}") from None
+
+    def close(self) -> None:
+        """Writes what is left, forces the file to its disk, and closes it."""
+        self.flush()
+        try:
+            if self.descriptor != 1:
+                force_descriptor(self.descriptor)
+                os.close(self.descriptor)
+        except OSError as fault:
+            raise Refused(f"{self.name}: {fault.strerror}") from None
+
+    def report(self, line: str) -> None:
+        """Prints what was done: on standard output, or on standard error where that is the output itself."""
+        if self.name == STREAM:
+            printing.err(line)
+            return
+        try:
+            printing.out(f"{line}\n")
+        except OSError as fault:
+            raise Refused(f"-: {fault.strerror}") from None

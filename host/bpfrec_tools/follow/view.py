@@ -1,0 +1,186 @@
+"""What is shown of a recording that goes on: the blocks of a capture, as its packets come."""
+
+from __future__ import annotations
+
+from typing import BinaryIO, Iterator, Optional
+
+from bpfrec.formats import pcapng_blocks
+from bpfrec.formats.body import LENGTH_BITS, MARKS, BadBody, Frames, chosen
+from bpfrec.formats.facts import SCALE_UNKNOWN, Facts
+from bpfrec.formats.follow import Front
+from bpfrec.formats.limits import ETHERNET_DATA, MAX_COUNTER, NANOSECONDS_A_TICK
+from bpfrec.formats.marks import Mark
+from bpfrec.formats.names import facts_path
+from bpfrec.formats.packet import body_of, data_of
+from bpfrec.formats.records import End, Program
+from bpfrec_tools.cli.program import Texts
+from bpfrec_tools.export.merging import program_text
+from bpfrec_tools.follow.growing import Growing, Report
+
+
+class Interface:
+    """A channel as an interface of the capture, and its filter: the program that was said last, and those since."""
+
+    def __init__(self, number: int) -> None:
+        self.number = number
+        self.said: Optional[Program] = None
+        self.waiting: list[Program] = []
+
+    def is_new(self, program: Program) -> bool:
+        """Whether a program is another filter than the one before: a recording that follows begins with that."""
+        last = self.waiting[-1] if self.waiting else self.said
+        return last is None or last.insns != program.insns
+
+
+class View:
+    """The capture that a verb writes, over all recordings of a run."""
+
+    def __init__(self, verb: str, out: BinaryIO, asked: list[int]) -> None:
+        self.verb, self.out, self.asked = verb, out, asked
+        self.interfaces: dict[int, Interface] = {}
+        self.texts = Texts()
+        self.frames = self.skipped = 0
+        # Texts of marks that wait for the next frame, and recordings before whose facts may still get some.
+        self.marks: list[str] = []
+        self.ending: list[Recording] = []
+        out.write(pcapng_blocks.section(verb, []))
+        # Its reader begins with that, however long the first frame takes.
+        out.flush()
+
+    def shows(self, channel: int) -> bool:
+        """Whether a channel was asked for."""
+        return not self.asked or channel in self.asked
+
+    def program(self, program: Program, name: str) -> None:
+        """A filter's program came into force."""
+        if not self.shows(program.channel):
+            return
+        interface = self.interface(program.channel, name, program)
+        if interface.is_new(program):
+            interface.waiting.append(program)
+
+    def interface(self, channel: int, name: str, first: Optional[Program] = None) -> Interface:
+        """The interface of a channel, which is described where it is new, with its first program."""
+        found = self.interfaces.get(channel)
+        if found is None:
+            found = self.interfaces[channel] = Interface(len(self.interfaces))
+            found.said = first
+            text = program_text([first], self.texts) if first else f"channel {channel}"
+            self.out.write(pcapng_blocks.interface(name, f"channel {channel}", "", text))
+        return found
+
+    def frame(self, interface: Interface, moment: int, marks: int, frame: bytes) -> None:
+        """A frame, with a comment where a mark waits or the filter has changed since the one before."""
+        options = b""
+        if marks or interface.waiting or self.marks:
+            said, interface.waiting = interface.waiting, []
+            interface.said = said[-1] if said else interface.said
+            texts, self.marks = [*self.marks, *([program_text(said, self.texts)] if said else [])], []
+            options = pcapng_blocks.packet_options(marks, "\n".join(texts) if texts else None)
+        self.out.write(pcapng_blocks.packet(interface.number, moment, frame, options))
+        self.frames += 1
+
+    def frames_in(self, frames: Frames, data: bytes) -> Iterator[tuple[int, int, bytes]]:
+        """The frames of a packet of these data: counters, marks as in a feed, and bytes."""
+        rows, skipped = chosen(frames)
+        self.skipped += skipped
+        for counter, word, begin in rows:
+            yield counter, MARKS[word >> 30], data[begin : begin + (word & LENGTH_BITS)]
+
+    def look_back(self) -> None:
+        """Takes marks of recordings before, whose last facts come once they are audited."""
+        for recording in self.ending:
+            recording.look_at_facts()
+            recording.show_marks(MAX_COUNTER)
+        self.ending = [it for it in self.ending if it.known and not it.known.has_ended]
+
+    def end(self) -> list[str]:
+        """The run has ended: marks that no frame follows, which are the comments of a section of their own too."""
+        self.look_back()
+        if self.marks:
+            self.out.write(pcapng_blocks.section(self.verb, self.marks))
+        return self.marks
+
+
+class Recording(Growing):
+    """A recording that is shown."""
+
+    def __init__(self, path: str, view: View, report: Report) -> None:
+        super().__init__(path, report)
+        self.view = view
+        # Up to this place frames are not shown.
+        self.hidden_to = 0
+        self.has_shown_frames = False
+        # How many of its marks were shown, or were there already where they are left out.
+        self.marks_shown = 0
+
+    def end(self) -> None:
+        """Shows what is left of a recording that has ended."""
+        self.read_rest()
+        self.view.ending.append(self)
+        self.view.look_back()
+
+    def hide(self) -> None:
+        """Leaves out the frames and marks that are there already."""
+        self.hidden_to = self.file.size_now()
+        self.look_at_facts()
+        self.marks_shown = len(self.marks())
+
+    def marks(self) -> list[Mark]:
+        """Its marks so far."""
+        return self.known.marks if self.known else []
+
+    def show_marks(self, counter: int) -> None:
+        """Has the marks shown that came before a frame or with it."""
+        marks = self.marks()
+        while self.known and self.marks_shown < len(marks) and marks[self.marks_shown].counter <= counter:
+            self.view.marks.append(self.known.mark_text(marks[self.marks_shown]))
+            self.marks_shown += 1
+
+    def take(self, front: Front) -> None:
+        """Shows a packet."""
+        if not front.header.is_plain():
+            return
+        if front.header.kind == ETHERNET_DATA:
+            self.take_frames(front)
+            return
+        record = self.follower.record(front)
+        if isinstance(record, Program):
+            self.named.add(record.channel)
+            self.view.program(record, self.name(record.channel))
+        elif isinstance(record, End):
+            self.named.add(record.channel)
+            self.ended.add(record.channel)
+
+    def take_frames(self, front: Front) -> None:
+        """Shows a packet of frames."""
+        header = front.header
+        self.named.add(header.channel)
+        if front.at < self.hidden_to or not self.view.shows(header.channel):
+            return
+        packet = self.file.read_at(front.at, header.packet_len)
+        what, fault = body_of(header, packet)
+        if fault is not None:
+            raise BadBody
+        if isinstance(what, Frames):
+            self.report_scale()
+            interface = self.view.interface(header.channel, self.name(header.channel))
+            for counter, marks, frame in self.view.frames_in(what, data_of(header, packet)):
+                self.show_marks(counter)
+                self.view.frame(interface, self.moment_of(counter), marks, frame)
+
+    def report_scale(self) -> None:
+        """Says ahead of the first frames where nobody knows in which scale their times are."""
+        if not self.has_shown_frames and self.known and not self.known.are_all_utc():
+            self.report(f"{facts_path(self.path)}: {SCALE_UNKNOWN}")
+        self.has_shown_frames = True
+
+    def moment_of(self, counter: int) -> int:
+        """The moment of a counter in a capture."""
+        return moment_in(self.known, counter)
+
+
+def moment_in(known: Optional[Facts], counter: int) -> int:
+    """The moment of a counter by facts, which a capture has from 1970 on."""
+    moment = known.moment_of(counter) if known else counter * NANOSECONDS_A_TICK
+    return min(max(moment or 0, 0), pcapng_blocks.MOST_UNITS)

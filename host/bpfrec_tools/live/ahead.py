@@ -1,0 +1,154 @@
+"""What a run needs of the system, which is judged before anything is begun: descriptors, and a folder of its own."""
+
+from __future__ import annotations
+
+import os
+import resource
+import shutil
+
+from bpfrec.formats.settings import Settings
+from bpfrec_tools.cli.signatures import Unsigned
+from bpfrec_tools.live.arguments import Arguments
+from bpfrec_tools.live.control.sockets import judge_path
+from bpfrec_tools.live.kept.clock_watch import by_the_kernel
+from bpfrec_tools.live.kept.names import Refusal, is_special
+from bpfrec_tools.live.kept.signer import LONGEST_TRIAL, Signer
+
+# How many descriptors live has open at most: while it records, while recordings follow one another, and for browsers.
+RECORDING, ROTATING, SERVING = 32, 48, 40
+# And for the program that is run for alarms.
+ALARMING = 8
+# And for ssh-keygen, while it signs.
+SIGNING = 8
+# For what publishes at an address: its end and its lines, and what is open while it starts.
+PUBLISHING = 4
+# How many the capture and the recorder have open, and how many more for each channel.
+CAPTURING, FOR_A_CHANNEL = 24, 4
+# What is signed to see whether a key can.
+PROBE = b"bpfrec: can this key sign?\n"
+# The standard streams, and what signals are read from.
+OPEN_BY_NOW = 5
+
+
+def refuse_few_descriptors(given: Arguments, channels: int) -> None:
+    """Takes as many descriptors as are allowed where the usual number is too small, and refuses where that is too."""
+    soft, hard = resource.getrlimit(resource.RLIMIT_NOFILE)
+    own = (ROTATING if given.is_rotating() else RECORDING) + (SERVING if given.status is not None else 0)
+    own += (ALARMING if given.on_alarm else 0) + (SIGNING if given.sign else 0) + PUBLISHING * len(given.targets)
+    needed = max(own, CAPTURING + FOR_A_CHANNEL * channels) + inherited()
+    if is_under(soft, needed) and not is_under(hard, needed):
+        resource.setrlimit(resource.RLIMIT_NOFILE, (hard, hard))
+    elif is_under(soft, needed):
+        raise Refusal(3, f"bpfrec live: it needs {needed} descriptors, and may have {hard}: ulimit -n {needed}")
+
+
+def refuse_many_channels(settings: Settings) -> None:
+    """Refuses more channels than a recording has, before each of them is looked at."""
+    fault = settings.count_fault()
+    if fault:
+        raise Refusal(2, f"bpfrec live: {settings.file}: {fault}")
+
+
+def refuse_without_id(settings: Settings) -> None:
+    """Refuses a channel without an ID, in the words of record."""
+    for channel in settings.channels:
+        if "id" not in channel.table:
+            place = ":".join(str(it) for it in (settings.file, channel.line("id")) if it)
+            raise Refusal(2, f"bpfrec live: {place}: {channel.name}: settings 3 Missing id")
+
+
+def refuse_feeds_alone(given: Arguments) -> None:
+    """Refuses recordings that follow one another without an interface."""
+    if given.is_rotating() and not given.routes:
+        raise Refusal(2, "bpfrec live: --every and --size need an interface")
+
+
+def is_under(limit: int, needed: int) -> bool:
+    """Whether a limit is less than what is needed."""
+    return limit != resource.RLIM_INFINITY and limit < needed
+
+
+def inherited() -> int:
+    """How many descriptors live was given beside the standard streams."""
+    try:
+        return max(0, len(os.listdir("/proc/self/fd")) - 1 - OPEN_BY_NOW)
+    except OSError:
+        return 0
+
+
+def refuse_holder() -> None:
+    """Refuses a TMPDIR whose name settings can't have, in which the recorder finds its pipes."""
+    holder = os.environ.get("TMPDIR", "")
+    try:
+        holder.encode()
+    except UnicodeEncodeError:
+        raise Refusal(3, f"bpfrec live: TMPDIR is not UTF-8: {os.fsencode(holder)!r}") from None
+
+
+def refuse_clock(given: Arguments) -> None:
+    """Refuses a clock that is worse than one that is asked for."""
+    fault = by_the_kernel().fault(given.clock_error)
+    if fault:
+        raise Refusal(3, f"bpfrec live: --require-clock: {fault}")
+
+
+def refuse_alarm_command(given: Arguments) -> None:
+    """Refuses a program for alarms that isn't there."""
+    if given.on_alarm and not shutil.which(given.on_alarm[0]):
+        raise Refusal(3, f"bpfrec live: --on-alarm: {given.on_alarm[0]} is missing, or can't be run")
+
+
+def refuse_control(given: Arguments) -> None:
+    """Refuses a path at which no socket can be made."""
+    if given.control is not None:
+        judge_path(given.control)
+
+
+def refuse_signing(given: Arguments) -> None:
+    """Refuses a key that can't sign, also where that is known by a text that is signed for a trial alone."""
+    try:
+        if given.sign is not None:
+            Signer(given.sign, longest=LONGEST_TRIAL).sign(PROBE)
+    except Unsigned as why:
+        raise Refusal(3, f"bpfrec live: --sign {given.sign}: {why}") from None
+
+
+def refuse_captures(given: Arguments) -> None:
+    """Refuses options that captures don't go with, and captures that aren't files, of which the origin isn't known."""
+    live_alone = {
+        "--every": given.every,
+        "--size": given.size,
+        "--prefilter": given.is_prefiltered or None,
+        "--require-clock": given.clock_error,
+    }
+    asked = [option for option, value in live_alone.items() if value is not None]
+    if given.reads_captures() and asked:
+        raise Refusal(2, f"bpfrec live: {asked[0]} is for interfaces")
+    for route in given.routes if given.reads_captures() else ():
+        if not os.path.isfile(route.interface):
+            what = "it is no regular file" if os.path.exists(route.interface) else "no such file"
+            raise Refusal(3, f"bpfrec live: {route.interface}: {what}")
+
+
+def refuse_together(given: Arguments) -> None:
+    """Refuses options that don't go together."""
+    refuse_captures(given)
+    is_ring = given.keep is not None or given.keep_free is not None
+    if is_ring and not given.is_rotating():
+        raise Refusal(2, "bpfrec live: --keep and --keep-free need --every or --size")
+    if is_ring and not given.is_audited:
+        raise Refusal(2, "bpfrec live: --keep and --keep-free remove what was audited, and --no-audit audits nothing")
+    if given.makes_whole_files and not given.is_audited:
+        raise Refusal(2, "bpfrec live: --chapter11 is made of what was audited, and --no-audit audits nothing")
+    if given.makes_whole_files and not given.routes:
+        raise Refusal(2, "bpfrec live: --chapter11 needs an interface")
+    if given.targets and not given.routes:
+        raise Refusal(2, "bpfrec live: --publish needs an interface")
+    if given.targets and is_special(given.out):
+        raise Refusal(2, "bpfrec live: --publish needs an OUT that is a file")
+    if given.status_names and given.status is None:
+        raise Refusal(2, "bpfrec live: --status-name needs --status")
+    if given.sign is not None and not given.routes:
+        raise Refusal(2, "bpfrec live: --sign needs an interface")
+    if given.span is not None and not given.routes:
+        raise Refusal(2, "bpfrec live: --span needs an interface")

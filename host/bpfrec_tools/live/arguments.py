@@ -1,0 +1,243 @@
+"""The arguments of bpfrec live."""
+
+from __future__ import annotations
+
+import argparse
+import re
+import shlex
+from typing import NamedTuple, NoReturn, Optional
+
+from bpfrec.formats.limits import MAX_COUNTER, TICKS_A_SECOND
+from bpfrec_tools.chapter11.options import add_setup_options, setup_arguments
+from bpfrec_tools.cli.arguments import Parser, name_of, nearest
+from bpfrec_tools.cli.quantities import IN_PARTS, MAX_SECONDS, number, parts, seconds, size
+from bpfrec_tools.live.capture_options import add_capture_options
+from bpfrec_tools.live.flight import flight_at, operands_with, words_of
+from bpfrec_tools.live.help import ABOUT, MORE
+from bpfrec_tools.live.model import are_rotating
+from bpfrec_tools.live.operands import Route, operands_of
+from bpfrec_tools.live.reports import journal
+from bpfrec_tools.live.targets import Target, target_of
+
+# The recorder opens OUT anew, to write it.
+OWNERS = 0o600
+# Of a clock's error, in seconds: the kernel counts microseconds, and takes a clock that may be off by more than this for
+# one that isn't synchronised.
+LEAST_ERROR, MOST_ERROR = 1e-6, 16
+# A disk takes about as long to be forced, in seconds.
+LEAST_SYNC = 0.01
+# A span of a microsecond at least, and at most what a counter holds, in whole seconds.
+LEAST_SPAN, MOST_SPAN = 1e-6, MAX_COUNTER // TICKS_A_SECOND
+
+
+class Arguments(NamedTuple):
+    """What live is told to do."""
+
+    # None where all frames are wanted.
+    settings: Optional[str]
+    out: str
+    routes: list[Route]
+    # The capture's options, as they were given.
+    options: list[str]
+    every: Optional[int]
+    size: Optional[int]
+    # After how many seconds the run ends; None where a signal ends it.
+    seconds: Optional[int]
+    sync: float
+    is_prefiltered: bool
+    is_forced: bool
+    is_audited: bool
+    is_strict: bool
+    # Where the status is served.
+    status: Optional[str]
+    # The names by which a browser may ask for it.
+    status_names: list[str]
+    # How old a packet gets until it is closed, in ticks, where SETTINGS don't say it; None where it isn't given.
+    span: Optional[int]
+    # How many recordings are kept at most, and how many bytes are to be free on their disk.
+    keep: Optional[int]
+    keep_free: Optional[int]
+    # The mode of the files that are created; None is the usual one, less what umask takes away.
+    mode: Optional[int]
+    # By how many seconds the clock may be off at most; None where nobody asks for a clock that is right.
+    clock_error: Optional[float]
+    # The program that is run for alarms, with its own arguments.
+    on_alarm: Optional[list[str]]
+    # The Unix socket by which lines come too.
+    control: Optional[str]
+    # Whether a whole Chapter 11 file is made of each recording, and what its setup record says beside the facts.
+    makes_whole_files: bool
+    setup: list[str]
+    # The key that signs facts.
+    sign: Optional[str]
+    # Where the run is published.
+    targets: list[Target]
+
+    def is_rotating(self) -> bool:
+        """Whether recordings follow one another."""
+        return are_rotating(self.every, self.size)
+
+    def reads_captures(self) -> bool:
+        """Whether captures stand in the places of interfaces."""
+        return any(it.is_capture() for it in self.routes)
+
+    def clock(self) -> str:
+        """Whose times the frames have."""
+        if self.reads_captures():
+            return "capture"
+        given = [it for at, it in enumerate(self.options) if at and self.options[at - 1] == "--clock"]
+        return "adapter" if given[-1:] == ["adapter"] else "host"
+
+
+class LiveParser(Parser):
+    """A parser that says what is wrong in one line."""
+
+    def error(self, message: str) -> NoReturn:
+        """Ends where the arguments are wrong."""
+        options = [it for action in self._actions for it in action.option_strings]
+        journal.err(f"bpfrec live: {fault_of(message, options)}")
+        self.exit(2)
+
+
+def fault_of(message: str, options: list[str]) -> str:
+    """A fault of argparse in the words of live, which has these options."""
+    found = re.fullmatch(r"argument (--[a-z-]+): (.*)", message)
+    if found:
+        return f"{found[1]} {'needs a value' if found[2].startswith('expected') else found[2]}"
+    found = re.fullmatch(r"unrecognized arguments: (\S+).*", message, re.DOTALL)
+    return f"no such option: {found[1]}{nearest(found[1], options)}" if found else message
+
+
+def clock_error(word: str) -> float:
+    """By how many seconds a clock may be off."""
+    return parts(LEAST_ERROR, MOST_ERROR, f"from 0.000001 to {MOST_ERROR}, in seconds, or as 10ms or 500us")(word)
+
+
+def span(word: str) -> int:
+    """How old a packet gets, in ticks."""
+    read = parts(LEAST_SPAN, MOST_SPAN, f"from 0.000001 to {MOST_SPAN}{IN_PARTS}", has_none=True)
+    return round(read(word) * TICKS_A_SECOND)
+
+
+def command_words(text: str) -> list[str]:
+    """A program and its arguments, taken apart as a shell does it."""
+    try:
+        words = shlex.split(text)
+    except ValueError as why:
+        raise argparse.ArgumentTypeError(f"needs a command: {str(why).lower()}") from None
+    if not words:
+        raise argparse.ArgumentTypeError("needs a command")
+    return words
+
+
+def file_mode(word: str) -> int:
+    """The mode of a file, as chmod has it."""
+    if not re.fullmatch(r"0?[0-7]{3}", word):
+        raise argparse.ArgumentTypeError("needs a mode of three octal digits, as 0640")
+    if int(word, 8) & OWNERS != OWNERS:
+        raise argparse.ArgumentTypeError("needs a mode by which the owner may read and write, as 0640")
+    return int(word, 8)
+
+
+def parser() -> Parser:
+    """The arguments of bpfrec live."""
+    name = name_of("live")
+    made = LiveParser(
+        prog=name,
+        usage=f"{name} [OPTION..] FLIGHT\n       {name} [OPTION..] [SETTINGS] OUT [INTERFACE[=CHANNEL[:EXPRESSION]]..]",
+        description=ABOUT,
+        epilog=MORE,
+        allow_abbrev=False,
+    )
+    made.add_argument("--force", action="store_true", help="overwrites an OUT that exists")
+    made.add_argument("--every", metavar="SECONDS", type=seconds, help="begins a new recording after this time")
+    made.add_argument("--for", metavar="SECONDS", dest="seconds", type=seconds, help="ends the run after this time")
+    made.add_argument("--size", metavar="BYTES", type=size, help="begins a new recording at BYTES bytes")
+    sync = parts(LEAST_SYNC, MAX_SECONDS, f"from {LEAST_SYNC} to {MAX_SECONDS}{IN_PARTS}", has_none=True)
+    made.add_argument("--sync", metavar="SECONDS", type=sync, default=1, help="how often OUT is forced to its disk")
+    made.add_argument("--span", metavar="SECONDS", type=span, help="how old a packet gets until it is written: 500ms")
+    count = number(1, MAX_SECONDS, f"from 1 to {MAX_SECONDS}")
+    made.add_argument("--keep", metavar="N", type=count, help="keeps the last N recordings of --every or --size")
+    made.add_argument("--keep-free", metavar="BYTES", type=size, help="removes the oldest until this much is free")
+    made.add_argument("--mode", metavar="MODE", type=file_mode, help="who may read OUT and its facts")
+    add_outside_options(made)
+    made.add_argument("--prefilter", action="store_true", help="has the kernel run the filters too")
+    add_options_of_the_end(made)
+    made.add_argument("--strict", action="store_true", help="exit status 5 if an interface lost frames")
+    add_capture_options(made)
+    made.add_argument("operands", nargs="*", help=argparse.SUPPRESS)
+    return made
+
+
+def add_options_of_the_end(made: Parser) -> None:
+    """What is done with each recording that has ended."""
+    whole = "makes OUT.ch10, a whole Chapter 11 file, after each recording"
+    made.add_argument("--chapter11", action="store_true", help=whole)
+    add_setup_options(made)
+    key = "signs the facts of each recording by ssh-keygen, with a key without a passphrase or of an agent"
+    made.add_argument("--sign", metavar="KEY", help=key)
+    made.add_argument("--no-audit", action="store_true", help="leaves the audit out")
+
+
+def add_outside_options(made: Parser) -> None:
+    """The options by which others see how the run goes, steer it, or get what it records."""
+    made.add_argument("--status", metavar="[ADDRESS:]PORT", help="serves a page that shows how the recording goes")
+    named = "a name by which browsers ask for it; may be given again"
+    made.add_argument("--status-name", metavar="NAME", action="append", default=[], help=named)
+    asked = "needs a synchronised clock that is off by no more than this"
+    made.add_argument("--require-clock", metavar="SECONDS", dest="clock_error", type=clock_error, help=asked)
+    ran = "runs a program when an alarm begins or ends"
+    made.add_argument("--on-alarm", metavar="COMMAND", type=command_words, help=ran)
+    made.add_argument("--control", metavar="PATH", help="takes lines by a Unix socket too: bpfrec tell sends them")
+    sent = "sends what is recorded there by UDP; may be given again"
+    form = "ADDRESS:PORT[,ttl=N][,interface=NAME][,datagram=BYTES]"
+    made.add_argument("--publish", metavar=form, type=target_of, action="append", default=[], help=sent)
+
+
+def given_by(made: Parser, arguments: list[str]) -> tuple[argparse.Namespace, list[str]]:
+    """The options and the operands of a command line, with those of the flight that it names."""
+    end = arguments.index("--") if "--" in arguments else len(arguments)
+    given = made.parse_intermixed_args(arguments[:end])
+    operands = [*given.operands, *arguments[end + 1 :]]
+    flight = flight_at(operands[0]) if operands else None
+    if flight:
+        operands = operands_with(flight, operands)
+        given = parser().parse_intermixed_args([*words_of(flight, made, arguments[:end]), *arguments[:end]])
+    return given, operands
+
+
+def read(arguments: list[str]) -> Arguments:
+    """The arguments of a command line; one that is wrong ends live, or is a Refusal."""
+    made = parser()
+    given, operands = given_by(made, arguments)
+    setup = setup_arguments(given)
+    if setup and not given.chapter11 and not given.publish:
+        made.error(f"{setup[0].partition('=')[0]} is for --chapter11 and --publish")
+    named = operands_of(operands)
+    return Arguments(
+        settings=named.settings,
+        out=named.out,
+        routes=named.routes,
+        options=given.options,
+        every=given.every,
+        size=given.size,
+        seconds=given.seconds,
+        sync=given.sync,
+        is_prefiltered=given.prefilter,
+        is_forced=given.force,
+        is_audited=not given.no_audit,
+        is_strict=given.strict,
+        status=given.status,
+        status_names=given.status_name,
+        span=given.span,
+        keep=given.keep,
+        keep_free=given.keep_free,
+        mode=given.mode,
+        clock_error=given.clock_error,
+        on_alarm=given.on_alarm,
+        control=given.control,
+        makes_whole_files=given.chapter11,
+        setup=setup,
+        sign=given.sign,
+        targets=[it._replace(setup=tuple(setup)) for it in given.publish],
+    )

@@ -1,0 +1,1 @@
+"""What stays of a run: recordings, facts, hashes, signatures and whole files."""

@@ -1,0 +1,153 @@
+"""The operands of live: SETTINGS OUT INTERFACE=CHANNEL.., or OUT INTERFACE.. where all frames are wanted."""
+
+from __future__ import annotations
+
+import os
+import re
+import socket
+from typing import NamedTuple, Optional
+
+from bpfrec.formats.limits import MAX_CHANNEL_ID
+from bpfrec.formats.packet import SYNC
+from bpfrec_tools.cli.arguments import name_of
+from bpfrec_tools.live.kept.names import Refusal
+
+# A name of an interface has neither `=` nor `/`; in its place may stand a capture, by its ending.
+ROUTE = re.compile(
+    r"(?P<interface>[^=]+\.(?:pcap|pcapng|cap)|[^=/\s]+)(?:=(?P<channel>[^:]*)(?::(?P<expression>.*))?)?", re.DOTALL
+)
+CAPTURES = (".pcap", ".pcapng", ".cap")
+CHANNEL_ID = re.compile(r"[1-9][0-9]{0,4}")
+
+
+class Route(NamedTuple):
+    """An interface, the channel that it is, and the expression of tcpdump that is its filter, where one is given."""
+
+    interface: str
+    channel: int
+    expression: Optional[str] = None
+
+    def is_capture(self) -> bool:
+        """Whether it is a capture, in the place of an interface."""
+        return self.interface.endswith(CAPTURES)
+
+
+class Operands(NamedTuple):
+    """SETTINGS, which are None where all frames are wanted; OUT; and which interface is which channel."""
+
+    settings: Optional[str]
+    out: str
+    routes: list[Route]
+
+
+def operands_of(operands: list[str]) -> Operands:
+    """What the operands say; a Refusal names what is missing or wrong."""
+    help_text = f"{name_of('live')} --help has its arguments"
+    if not operands or (len(operands) == 1 and names_settings(operands)):
+        raise Refusal(2, f"bpfrec live: it takes SETTINGS and OUT: {help_text}")
+    if names_settings(operands):
+        settings, out, *rest = operands
+        refuse_interface(settings, 3)
+        if is_route(out):
+            raise Refusal(2, f"bpfrec live: OUT is missing: it stands between {settings} and {out}")
+        return Operands(settings, dashed(out), routes_of(rest))
+    out, *rest = operands
+    refuse_interface(out, 2)
+    if not rest:
+        raise Refusal(2, f"bpfrec live: an INTERFACE is missing: it stands behind {out}")
+    return Operands(None, dashed(out), routes_of(numbered(rest)))
+
+
+def refuse_interface(operand: str, status: int) -> None:
+    """Refuses an interface that is here in the place of SETTINGS or OUT."""
+    found = ROUTE.fullmatch(operand)
+    if found and is_interface(found["interface"]) and not os.path.lexists(operand):
+        raise Refusal(status, f"bpfrec live: {operand} is an interface: SETTINGS, OUT, then interfaces")
+
+
+def dashed(out: str) -> str:
+    """OUT as a path that no program takes for an option."""
+    if out == "-":
+        raise Refusal(2, "bpfrec live: -: OUT is a file or a named pipe, since standard output has the report")
+    return f"./{out}" if out.startswith("-") else out
+
+
+def names_settings(operands: list[str]) -> bool:
+    """Whether the first operand is SETTINGS, and not OUT: by its ending, by what it is, or by the operands behind it."""
+    first, *rest = operands
+    if first.endswith((".toml", ".ch11", ".ch10")):
+        return first.endswith(".toml")
+    if os.path.isfile(first):
+        return not is_recording(first)
+    return not all(is_route(it) for it in rest)
+
+
+def is_recording(path: str) -> bool:
+    """Whether a file is a recording, also one that is empty yet."""
+    try:
+        with open(path, "rb") as file:
+            return file.read(len(SYNC)) in (b"", SYNC)
+    except OSError:
+        return False
+
+
+def is_route(operand: str) -> bool:
+    """Whether an operand is an interface with its channel, or an interface that is here."""
+    found = ROUTE.fullmatch(operand)
+    if not found:
+        return False
+    if found["interface"].endswith(CAPTURES):
+        return True
+    if os.path.lexists(operand):
+        return False
+    return is_channel_id(found["channel"] or "") or is_interface(found["interface"])
+
+
+def is_channel_id(operand: str) -> bool:
+    """Whether an operand is a channel ID."""
+    return CHANNEL_ID.fullmatch(operand) is not None and int(operand) <= MAX_CHANNEL_ID
+
+
+def is_interface(name: str) -> bool:
+    """Whether there is an interface of this name."""
+    try:
+        return socket.if_nametoindex(name) > 0
+    except (OSError, ValueError):
+        return False
+
+
+def numbered(operands: list[str]) -> list[str]:
+    """Interfaces with channels: those that have none get the lowest that no other one has, in their order."""
+    taken = {found["channel"] for found in map(ROUTE.fullmatch, operands) if found}
+    free = (str(it) for it in range(1, len(operands) + len(taken) + 1) if str(it) not in taken)
+    return [it if "=" in it else f"{it}={next(free)}" for it in operands]
+
+
+def routes_of(operands: list[str]) -> list[Route]:
+    """Which interface is which channel."""
+    routes: list[Route] = []
+    for operand in operands:
+        route = route_of(operand)
+        if any(it.channel == route.channel for it in routes):
+            raise Refusal(2, f"bpfrec live: channel {route.channel} has two interfaces")
+        routes.append(route)
+    if len({it.is_capture() for it in routes}) > 1:
+        raise Refusal(2, "bpfrec live: captures and interfaces have runs of their own")
+    return routes
+
+
+def route_of(operand: str) -> Route:
+    """The interface, the channel and the expression of an operand."""
+    found = ROUTE.fullmatch(operand)
+    if not found:
+        raise Refusal(2, f"bpfrec live: no INTERFACE=CHANNEL: {operand}")
+    interface, channel, expression = found["interface"], found["channel"], found["expression"]
+    if interface.startswith("-"):
+        raise Refusal(2, f"bpfrec live: {interface}: the name of an interface doesn't begin with -")
+    if channel is None:
+        raise Refusal(2, f"bpfrec live: {operand}: with SETTINGS name its channel, as {operand}=1")
+    if not is_channel_id(channel):
+        raise Refusal(2, f"bpfrec live: {operand}: a channel ID is 1 to {MAX_CHANNEL_ID}")
+    if expression is not None and not expression.strip():
+        raise Refusal(2, f"bpfrec live: {interface}={channel}: the expression is empty")
+    return Route(interface, int(channel), expression)

@@ -1,0 +1,1 @@
+"""The processes, pipes and files of a run."""

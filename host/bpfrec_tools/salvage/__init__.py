@@ -1,0 +1,1 @@
+"""bpfrec salvage: what is left of a damaged recording."""

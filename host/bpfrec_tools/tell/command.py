@@ -1,0 +1,150 @@
+"""The command line of bpfrec tell."""
+
+from __future__ import annotations
+
+import argparse
+import os
+import socket
+import stat
+import sys
+from collections.abc import Iterable
+from typing import BinaryIO, Optional
+
+from bpfrec.formats.names import split
+from bpfrec_tools.cli import printing
+from bpfrec_tools.cli.arguments import Parser, name_of
+from bpfrec_tools.cli.quantities import seconds
+from bpfrec_tools.live.flight import flight_at
+from bpfrec_tools.live.kept.names import Refusal
+
+ABOUT = """\
+Sends lines to a run of bpfrec live --control PATH, and waits for what each comes to:
+
+  bpfrec tell flight.ch11 mark gear up
+  bpfrec tell flight.toml set "bus A" udp port 5004
+  bpfrec tell /run/bpfrec/control next
+
+RUN is the socket at PATH, or the name of the run, whose socket is flight.control beside flight.ch11, or the settings of
+the flight, which name it.
+
+A LINE is one that bpfrec live takes on standard input: `set CHANNEL FILTER`, `mark TEXT`, `status`, `next`, `stop` or
+`help`; its arguments are joined by blanks. Without one, lines are read from standard input, each once the one before it is
+answered. A path in a line is looked for from where bpfrec live runs.
+"""
+MORE = """\
+It prints what is answered, on standard error where a line is refused.
+
+Status: 0 all was done, 1 a line was refused, 2 the arguments are wrong, 3 nobody listens, or the recording ended
+ahead of an answer, 130 interrupted.
+"""
+DONE, REFUSED, USAGE, NOBODY = 0, 1, 2, 3
+# What the socket of a run is called, beside its recordings.
+ENDING = ".control"
+
+
+class Gone(Exception):
+    """Who was asked has ended ahead of the answer, or doesn't answer in time."""
+
+
+def parser() -> Parser:
+    """The arguments of bpfrec tell."""
+    name = name_of("tell")
+    made = Parser(prog=name, usage=f"{name} [--wait SECONDS] RUN [LINE]", description=ABOUT, epilog=MORE)
+    made.add_argument("--wait", metavar="SECONDS", type=seconds, help="gives an answer up after this time")
+    made.add_argument("run", metavar="RUN", help="the socket of bpfrec live, or what names it")
+    made.add_argument("words", metavar="LINE", nargs=argparse.REMAINDER)
+    return made
+
+
+def line_of(words: list[str]) -> str:
+    """The line that words are; a channel's name that has blanks is in quotes again, and so is an empty filter."""
+    quoted = (at == 1 and " " in it or at == 2 and not it for at, it in enumerate(words))
+    named = [f'"{it}"' if words[0] == "set" and is_quoted else it for it, is_quoted in zip(words, quoted)]
+    return " ".join(named)
+
+
+def socket_of(name: str) -> str:
+    """The socket of a run, by its path, its name or its settings; where none is there the one that settings mean, or the
+    name itself."""
+    is_settings = name.endswith(".toml")
+    beside = [f"{split(name)[0]}{ENDING}", f"{name}{ENDING}"]
+    meant = sockets_in(name if is_settings else f"{name}.toml")
+    missing = [*meant, *beside][0] if is_settings else name
+    return next((it for it in (name, *beside, *meant) if is_socket(it)), missing)
+
+
+def sockets_in(settings: str) -> list[str]:
+    """The socket that settings name, or the one beside their `out`: from their folder, and from this one, since live may
+    have been started in either."""
+    flight = flight_at(settings)
+    control, out = (flight.run.get("control"), flight.out()) if flight else (None, None)
+    meant = control if isinstance(control, str) else f"{split(out)[0]}{ENDING}" if out else None
+    return [os.path.join(it, meant) for it in (os.path.dirname(settings), "")] if meant else []
+
+
+def is_socket(path: str) -> bool:
+    """Whether a path is that of a socket."""
+    try:
+        return stat.S_ISSOCK(os.stat(path).st_mode)
+    except (OSError, ValueError):
+        return False
+
+
+def answer_in(stream: BinaryIO) -> tuple[bool, str]:
+    """The next answer: whether what was asked for was done, and what is said of it."""
+    lines: list[str] = []
+    for line in stream:
+        if line == b"\n" and lines:
+            return lines[0] == "done", "\n".join(lines[1:])
+        lines.append(line.decode(errors="replace").rstrip("\n"))
+    raise Gone("it ended ahead of an answer")
+
+
+def ask(connection: socket.socket, stream: BinaryIO, line: str) -> bool:
+    """Sends a line, and tells its answer: whether it was done."""
+    try:
+        connection.sendall(line.encode(errors="surrogateescape") + b"\n")
+        is_done, text = answer_in(stream)
+    except socket.timeout:
+        raise Gone("it doesn't answer") from None
+    except OSError as error:
+        raise Gone(str(error.strerror)) from None
+    if text:
+        (printing.out if is_done else printing.err)(f"{text}\n" if is_done else text)
+    return is_done
+
+
+def ask_all(path: str, lines: Iterable[str], patience: Optional[int]) -> int:
+    """Sends lines, each once the one before is answered: the status."""
+    status = DONE
+    with socket.socket(socket.AF_UNIX, socket.SOCK_STREAM) as connection:
+        connection.settimeout(patience)
+        try:
+            connection.connect(path)
+        except OSError as error:
+            raise Gone(f"nobody listens: {error.strerror}") from None
+        with connection.makefile("rb") as stream:
+            for line in lines:
+                if not ask(connection, stream, line):
+                    status = REFUSED
+    return status
+
+
+def run(arguments: list[str]) -> int:
+    """Asks: the status."""
+    given = parser().parse_args(arguments)
+    words = line_of(given.words)
+    if "\n" in words:
+        printing.err(f"{name_of('tell')}: LINE has a line feed, and so it is more than one")
+        return USAGE
+    typed = (line.rstrip("\n") for line in sys.stdin)
+    try:
+        path = socket_of(given.run)
+    except Refusal as refusal:
+        printing.err(f"{name_of('tell')}: {refusal.line.removeprefix('bpfrec live: ')}")
+        return refusal.status
+    try:
+        return ask_all(path, [words] if words else (it for it in typed if it), given.wait)
+    except Gone as why:
+        printing.err(f"{name_of('tell')}: {path}: {why}")
+        return NOBODY
