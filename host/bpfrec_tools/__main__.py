@@ -32,7 +32,7 @@ def run_tool(tool: str, words: Optional[list[str]] = None) -> int:
 
 def show_verbs(words: list[str]) -> int:
     """Lists the verbs: the status, which is 0 where that was asked for."""
-    if words in ([], ["-h"], ["--help"], ["help"]):
+    if words in ([], ["-h"], ["--help"], ["help"], ["help", "help"]):
         printing.out(verbs.text())
         return 0
     verb, known = words[words[0] == "help"], [*verbs.VERBS, "help"]

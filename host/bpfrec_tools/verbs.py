@@ -128,7 +128,7 @@ VERBS = {name: verb for group in GROUPS.values() for name, verb in group.items()
 ABOUT = "bpfrec records Ethernet channels through filters, and reads the recordings. A verb with * is proved."
 MORE = """\
 bpfrec help VERB and man bpfrec-VERB say all of one; --version has the version. Options stand anywhere, what is read comes
-first and what is written last, and `-` is standard input or output."""
+first and what is written last. `-` is standard input or output where the help of a verb has it."""
 
 
 def text() -> str:

@@ -51,7 +51,7 @@ def test_any_other_export_is_the_tools(work: Path) -> None:
     judge("an option is the tool's", (done.returncode, done.stderr[-30:]) != (0, ""), done)
 
 
-@pytest.mark.parametrize("words", [["--help"], ["help"], ["-h"]])
+@pytest.mark.parametrize("words", [["--help"], ["help"], ["-h"], ["help", "help"]])
 def test_help_lists_all_verbs_by_group(words: list[str]) -> None:
     told = run(COMMAND, *words)
     for group, members in verbs.GROUPS.items():
@@ -68,6 +68,11 @@ def test_each_tool_has_help_and_a_version(verb: str) -> None:
     judge("its help", told.startswith(f"usage: bpfrec {verb} "), told)
     judge("the same by help", run(COMMAND, "help", verb) == told)
     judge("its version", run(COMMAND, verb, "--version") == f"bpfrec {VERSION}\n")
+
+
+@pytest.mark.parametrize("verb", PROVED)
+def test_each_proved_verb_has_the_programs_version(verb: str) -> None:
+    judge("its version", run(COMMAND, verb, "--version") == run(COMMAND, "--version"))
 
 
 def test_a_verb_or_an_option_that_is_unknown_names_the_nearest() -> None:
