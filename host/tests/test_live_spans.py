@@ -81,7 +81,7 @@ def test_a_span_of_settings_that_is_none_is_refused_by_its_channel(settings: Pat
         judge(value, (refused.value.status, refused.value.line) == (2, line), refused.value.line)
 
 
-def test_parts_of_seconds_are_taken_and_others_refused(capsys: pytest.CaptureFixture[str]) -> None:
+def test_parts_of_seconds_are_taken_and_others_refused() -> None:
     def asked(option: str, word: str) -> float | int | None:
         given = read([option, word, "o.ch11", "rx0"])
         return given.span if option == "--span" else given.sync
@@ -98,8 +98,7 @@ def test_parts_of_seconds_are_taken_and_others_refused(capsys: pytest.CaptureFix
         ("--sync", ["9ms", "0.001", "9M", "-1"], "from 0.01 to 999999999"),
     ]:
         for word in words:
-            with pytest.raises(SystemExit) as ended:
+            with pytest.raises(Refusal) as refused:
                 read([f"{option}={word}", "o.ch11", "rx0"])
-            told = capsys.readouterr().err
-            line = f"bpfrec live: {option} needs a number {needed}, {parts}\n"
-            judge(f"{option} {word!r}", (ended.value.code, told) == (2, line), told)
+            line = f"bpfrec live: {option} needs a number {needed}, {parts}"
+            judge(f"{option} {word!r}", (refused.value.status, refused.value.line) == (2, line), refused.value.line)

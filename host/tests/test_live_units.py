@@ -73,7 +73,7 @@ def test_help_says_which_keys_a_channel_of_a_flight_must_have() -> None:
     judge("each", found and re.findall("`(.*?)`", found[1]) == [it for it in must if it != "feed"], (must, found))
 
 
-def test_options_of_the_capture_keep_their_order(capsys: pytest.CaptureFixture) -> None:
+def test_options_of_the_capture_keep_their_order() -> None:
     given = arguments.read(["--buffer=4", "--quiet", "--clock", "adapter", "--every", "5", "--", "s.toml", "o", "lo=1"])
     judge(
         "options of the capture are kept in their order",
@@ -88,10 +88,7 @@ def test_options_of_the_capture_keep_their_order(capsys: pytest.CaptureFixture) 
         (["-x", "a", "b"], "bpfrec live: no such option: -x"),
         (["--eve", "3"], "bpfrec live: no such option: --eve: did you mean --every?"),
     ]:
-        with pytest.raises(SystemExit) as caught:
-            arguments.read(words_given)
-        told = capsys.readouterr().err
-        judge_quietly(f"{words_given}: {told}", caught.value.code == 2 and told == f"{line}\n")
+        judge_quietly(f"{words_given}", refused(functools.partial(arguments.read, words_given)) == (2, line))
     judge("what is wrong is said in one line", True)
 
 

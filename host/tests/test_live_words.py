@@ -249,7 +249,7 @@ def test_a_run_ends_once_after_its_time_from_the_first_recording_on() -> None:
 def test_a_time_has_units(word: str, seconds: int | None) -> None:
     try:
         found = read(["--for", word, "out.ch11", "rx0"]).seconds
-    except SystemExit:
+    except Refusal:
         found = None
     judge(word, found == seconds, found)
 

@@ -1,12 +1,14 @@
-"""Tries what live and preflight say of a flight that has a channel without an ID."""
+"""Tries what live and preflight say of a flight that has faults."""
 
 from pathlib import Path
 
 import pytest
 from bpfrec.formats.settings import settings_of
 from bpfrec_tools.live.ahead import refuse_without_id
+from bpfrec_tools.live.arguments import arguments_of, given_by
 from bpfrec_tools.live.kept.names import Refusal
 from bpfrec_tools.preflight.command import judge_settings
+from bpfrec_tools.preflight.flights import judge_flight
 from bpfrec_tools.preflight.live import judge_live
 from bpfrec_tools.preflight.report import Report
 from support import judge
@@ -43,12 +45,33 @@ def test_live_names_the_file_and_the_line(work: Path) -> None:
     refuse_without_id(settings_of("s.toml", "[[channel]]\nid = 1\n"))
 
 
-def test_a_run_that_is_no_table_is_a_fault(
-    work: Path, monkeypatch: pytest.MonkeyPatch, capsys: pytest.CaptureFixture
+NAMED = "and it must be a name in quotes"
+WRONG = {
+    "run = 3\n": ["flight.toml:1: run: a number, and it must be a table, as [run] begins it"],
+    '[run]\nouf = "o"': ["flight.toml:2: [run] has no key ouf: did you mean out?"],
+    "[run]\nquiet = true": ["live: it takes SETTINGS and OUT: bpfrec live --help has its arguments"],
+    f'{RUN}quiet = 3\npublish = ["x", "y"]\nspan = -3\n[[channel]]\nid = 1\nname = 4\ninterface = "e 0"': [
+        f"flight.toml:9: channel 1: name: a number, {NAMED}",
+        "flight.toml:4: [run] quiet: a number, and it must be true or false",
+        "flight.toml:10: channel 1: no INTERFACE=CHANNEL: e 0=1",
+        "flight.toml:5: --publish x: needs ADDRESS:PORT or [ADDRESS]:PORT, as 239.1.2.3:50000",
+        "flight.toml:5: --publish y: needs ADDRESS:PORT or [ADDRESS]:PORT, as 239.1.2.3:50000",
+        "flight.toml:6: --span needs a number from 0.000001 to 28147497, in seconds, or as 100ms, or 0",
+    ],
+}
+
+
+@pytest.mark.parametrize("text", WRONG)
+def test_each_fault_of_a_flight_is_named(
+    work: Path, monkeypatch: pytest.MonkeyPatch, capsys: pytest.CaptureFixture, text: str
 ) -> None:
     monkeypatch.chdir(work)
-    Path("flight.toml").write_text("run = 3\n")
-    report = Report()
-    judge_live(["flight.toml"], judge_settings, report)
-    line = "live: flight.toml: run: a number, and it must be a table, as [run] begins it\n"
-    judge("it says so", (report.faults, capsys.readouterr().out) == (1, line), report)
+    Path("flight.toml").write_text(text)
+    line, report = given_by(["flight.toml"]), Report()
+    assert line.flight
+    judge_flight(line, line.flight, report)
+    judge("each by its line", capsys.readouterr().out.splitlines() == WRONG[text], report.faults)
+    given = arguments_of(line)
+    judge(
+        "the rest is read", (given.targets, given.span, len(given.routes)) == ([], None, text.count("channel")), given
+    )

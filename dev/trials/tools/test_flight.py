@@ -1,6 +1,7 @@
 """Tries a flight in one TOML: its [run] are the options of live, and its channels name their interfaces."""
 
 import json
+import re
 import shutil
 from pathlib import Path
 
@@ -127,6 +128,50 @@ def test_preflight_names_all_faults_and_says_what_will_happen(folder: Path) -> N
         [it for it in text.splitlines() if not it.endswith(("available", "on its disk"))] for text in (told, again)
     )
     judge("live's own words do it too", first == second, again)
+
+
+FAULTY = """
+[run]
+out = "o.ch11"
+every = "10x"
+sise = "2GB"
+span = -3
+[[channel]]
+id = 1
+interface = "no0"
+filter = "udp prt 3"
+[[channel]]
+id = 1
+interface = "no1"
+name = 4
+filter = "tcp prt 4"
+[[channel]]
+id = 2
+interface = 7
+filter = "arp"
+"""
+FAULTS = [
+    "flight.toml:18: channel 2: interface: a number, and it must be a name in quotes",
+    "flight.toml:14: channel 1: name: a number, and it must be a name in quotes",
+    "flight.toml:5: [run] has no key sise: did you mean size?",
+    "flight.toml:4: --every needs a number from 1 to 999999999, in seconds, or as 10m",
+    "flight.toml:6: --span needs a number from 0.000001 to 28147497, in seconds, or as 100ms, or 0",
+    "flight.toml:12: channel 1: settings 6 SameChannel 1",
+    "flight.toml: filter udp prt 3 of channel 1: tcpdump: can't parse filter expression: syntax error",
+    "flight.toml: filter tcp prt 4 of channel 1: tcpdump: can't parse filter expression: syntax error",
+    "no1: no such interface",
+    "no0: no such interface",
+]
+
+
+def test_a_fault_of_a_flight_hides_no_other_and_brings_none(folder: Path) -> None:
+    (folder / "flight.toml").write_text(FAULTY)
+    done = outcome(PREFLIGHT, "flight.toml", cwd=folder)
+    faults = [it for it in done.stdout.splitlines()[:-1] if not re.search(": note: |no permission", it)]
+    judge("all", (done.returncode, faults) == (1, FAULTS), faults)
+    live = outcome(LIVE, "flight.toml", cwd=folder)
+    first = FAULTS[0].replace(":18", "")
+    judge("live says the first", (live.returncode, live.stderr) == (2, f"bpfrec live: {first}\n"), live)
 
 
 def test_record_knows_no_run(folder: Path) -> None:

@@ -67,9 +67,9 @@ class Channel(NamedTuple):
         return self.section.keys.get(key, self.section.first) if self.section else None
 
     def id(self) -> Optional[int]:
-        """Its ID; None where it has none that is a number."""
+        """Its ID; None where it has none that a channel can have."""
         value = self.table.get("id")
-        return value if type(value) is int else None
+        return None if number_fault(value, CHANNEL_KEYS["id"], "id") else value
 
     def path(self, key: str) -> Optional[str]:
         """The path that a key has, if it has one."""
@@ -83,12 +83,17 @@ class Settings(NamedTuple):
     file: str
     document: dict[str, Any]
     channels: list[Channel]
-    # The line that sets a key of the top: on its own, or as the first header of a table.
-    lines: dict[str, int]
+    sections: list[Section]
 
     def line(self, key: str) -> Optional[int]:
-        """The line that sets a key of the top."""
-        return self.lines.get(key)
+        """The line that sets a key of the top: on its own, or as the first header of a table."""
+        headers = (it.first for it in self.sections[1:] if named(HEADER_KEY, it.header) == key)
+        return self.sections[0].keys.get(key) or next(headers, None)
+
+    def line_in(self, table: str, key: str) -> Optional[int]:
+        """The line that sets a key of a table, or else that of the table's header."""
+        headed = (it for it in self.sections[1:] if named(HEADER_KEY, it.header) == table)
+        return next((it.keys[key] for it in headed if key in it.keys), self.line(table))
 
     def recorded(self) -> list[Channel]:
         """The channels that may be recorded, where there are more."""
@@ -126,7 +131,7 @@ def settings_of(file: str, text: str) -> Settings:
     except (ValueError, RecursionError) as fault:
         raise syntax_fault(text, str(fault)) from None
     sections = sections_of(text)
-    return Settings(file, document, channels_of(sections, document), top_lines(sections))
+    return Settings(file, document, channels_of(sections, document), sections)
 
 
 def judge_depth(text: str) -> None:
@@ -176,16 +181,6 @@ def named(pattern: re.Pattern[str], line: str) -> Optional[str]:
     """The key that a line begins with."""
     found = pattern.match(line)
     return next((it for it in found.groups() if it is not None), None) if found else None
-
-
-def top_lines(sections: list[Section]) -> dict[str, int]:
-    """Which line sets which key of the top."""
-    headers = ((named(HEADER_KEY, it.header), it.first) for it in sections[1:])
-    lines = dict(sections[0].keys)
-    for key, line in headers:
-        if key is not None:
-            lines.setdefault(key, line)
-    return lines
 
 
 def channels_of(sections: list[Section], document: dict[str, Any]) -> list[Channel]:

@@ -12,11 +12,11 @@ from bpfrec_tools.chapter11.options import add_setup_options, setup_arguments
 from bpfrec_tools.cli.arguments import Parser, name_of, nearest
 from bpfrec_tools.cli.quantities import IN_PARTS, MAX_SECONDS, number, parts, seconds, size
 from bpfrec_tools.live.capture_options import add_capture_options
-from bpfrec_tools.live.flight import flight_at, operands_with, words_of
+from bpfrec_tools.live.flight import Flight, faults_of, flight_at, operands_with, words_of
 from bpfrec_tools.live.help import ABOUT, MORE
+from bpfrec_tools.live.kept.names import Refusal
 from bpfrec_tools.live.model import are_rotating
 from bpfrec_tools.live.operands import Route, operands_of
-from bpfrec_tools.live.reports import journal
 from bpfrec_tools.live.targets import Target, target_of
 
 # The recorder opens OUT anew, to write it.
@@ -93,10 +93,9 @@ class LiveParser(Parser):
     """A parser that says what is wrong in one line."""
 
     def error(self, message: str) -> NoReturn:
-        """Ends where the arguments are wrong."""
+        """Refuses arguments that are wrong."""
         options = [it for action in self._actions for it in action.option_strings]
-        journal.err(f"bpfrec live: {fault_of(message, options)}")
-        self.exit(2)
+        raise Refusal(2, f"bpfrec live: {fault_of(message, options)}")
 
 
 def fault_of(message: str, options: list[str]) -> str:
@@ -194,25 +193,40 @@ def add_outside_options(made: Parser) -> None:
     made.add_argument("--publish", metavar=form, type=target_of, action="append", default=[], help=sent)
 
 
-def given_by(made: Parser, arguments: list[str]) -> tuple[argparse.Namespace, list[str]]:
-    """The options and the operands of a command line, with those of the flight that it names."""
+class Given(NamedTuple):
+    """A command line: its options as words, and read; its operands; and the flight that they name."""
+
+    words: list[str]
+    options: argparse.Namespace
+    operands: list[str]
+    flight: Optional[Flight]
+
+
+def given_by(arguments: list[str]) -> Given:
+    """What stands on a command line."""
     end = arguments.index("--") if "--" in arguments else len(arguments)
-    given = made.parse_intermixed_args(arguments[:end])
-    operands = [*given.operands, *arguments[end + 1 :]]
-    flight = flight_at(operands[0]) if operands else None
-    if flight:
-        operands = operands_with(flight, operands)
-        given = parser().parse_intermixed_args([*words_of(flight, made, arguments[:end]), *arguments[:end]])
-    return given, operands
+    options = parser().parse_intermixed_args(arguments[:end])
+    operands = [*options.operands, *arguments[end + 1 :]]
+    return Given(arguments[:end], options, operands, flight_at(operands[0]) if operands else None)
 
 
 def read(arguments: list[str]) -> Arguments:
-    """The arguments of a command line; one that is wrong ends live, or is a Refusal."""
-    made = parser()
-    given, operands = given_by(made, arguments)
+    """The arguments of a command line, with those of the flight that it names; what is wrong is a Refusal."""
+    line = given_by(arguments)
+    for fault in faults_of(line.flight, parser(), line.words) if line.flight else ():
+        raise Refusal(2, f"bpfrec live: {line.operands[0]}: {fault.what}")
+    return arguments_of(line)
+
+
+def arguments_of(line: Given) -> Arguments:
+    """The same of a command line whose flight has no fault."""
+    given, operands = line.options, line.operands
+    if line.flight:
+        given = parser().parse_intermixed_args([*words_of(line.flight, line.words), *line.words])
+        operands = operands_with(line.flight, operands)
     setup = setup_arguments(given)
     if setup and not given.chapter11 and not given.publish:
-        made.error(f"{setup[0].partition('=')[0]} is for --chapter11 and --publish")
+        raise Refusal(2, f"bpfrec live: {setup[0].partition('=')[0]} is for --chapter11 and --publish")
     named = operands_of(operands)
     return Arguments(
         settings=named.settings,

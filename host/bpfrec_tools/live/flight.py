@@ -4,11 +4,10 @@ interfaces."""
 from __future__ import annotations
 
 import os
-from typing import Any, NamedTuple, Optional
+from typing import Any, Iterator, NamedTuple, Optional
 
 from bpfrec.formats.settings import NoReader, NoToml, Settings, settings_of, type_of
 from bpfrec_tools.cli.arguments import Parser, nearest
-from bpfrec_tools.live.kept.names import Refusal
 from bpfrec_tools.live.operands import is_route
 
 RUN, OUT = "run", "out"
@@ -16,23 +15,39 @@ RUN, OUT = "run", "out"
 OF_CHANNEL = ("interface", "name")
 
 
-class Flight(NamedTuple):
-    """What a flight's settings say beside those of record: its [run], which interface is which channel, and the names of
-    channels."""
+class Fault(NamedTuple):
+    """What is wrong with a key of a flight: its line where it is known, the table that has it, and what, for people."""
 
-    file: str
-    run: dict[str, Any]
-    routes: dict[int, str]
-    names: dict[int, str]
+    line: Optional[int]
+    table: dict[str, Any]
+    key: str
+    what: str
+
+
+class Flight(NamedTuple):
+    """What a flight's settings say beside those of record."""
+
+    settings: Settings
+
+    @property
+    def run(self) -> dict[str, Any]:
+        """Its [run]; empty where that is no table."""
+        found = self.settings.document.get(RUN)
+        return found if isinstance(found, dict) else {}
+
+    def routes(self) -> dict[int, str]:
+        """Which interface is which channel."""
+        return texts_of(self.settings, "interface")
 
     def shown_name(self, channel: int) -> str:
         """The name of a channel behind its ID; nothing where it has none."""
-        return f" ({self.names[channel]})" if channel in self.names else ""
+        names = texts_of(self.settings, "name")
+        return f" ({names[channel]})" if channel in names else ""
 
     def out(self) -> Optional[str]:
         """The OUT that it names."""
         found = self.run.get(OUT)
-        return found if isinstance(found, str) else None
+        return str(found) if is_value(found) else None
 
 
 def without_flight(settings: Settings) -> Settings:
@@ -46,28 +61,14 @@ def without_flight(settings: Settings) -> Settings:
 
 def flight_of(settings: Settings) -> Optional[Flight]:
     """What settings say of a flight; None where they are those of record."""
-    run = settings.document.get(RUN)
-    tables = [it.table for it in settings.channels]
-    if run is None and not any(key in table for table in tables for key in OF_CHANNEL):
-        return None
-    if run is not None and not isinstance(run, dict):
-        raise Refusal(
-            2, f"bpfrec live: {settings.file}: run: {type_of(run)}, and it must be a table, as [run] begins it"
-        )
-    return Flight(settings.file, run or {}, texts_of(settings, "interface"), texts_of(settings, "name"))
+    is_named = any(key in it.table for it in settings.channels for key in OF_CHANNEL)
+    return Flight(settings) if RUN in settings.document or is_named else None
 
 
 def texts_of(settings: Settings, key: str) -> dict[int, str]:
     """The texts that channels have for a key, by their IDs."""
-    found = {}
-    for channel in settings.channels:
-        value = channel.table.get(key)
-        if value is not None and not (isinstance(value, str) and value.strip() and value.isprintable()):
-            what = f"{key}: {type_of(value)}, and it must be a name in quotes"
-            raise Refusal(2, f"bpfrec live: {settings.file}: {channel.name}: {what}")
-        if value is not None and type(channel.table.get("id")) is int:
-            found[channel.table["id"]] = value
-    return found
+    tables = [it.table for it in settings.channels if type(it.table.get("id")) is int]
+    return {it["id"]: it[key] for it in tables if is_name(it.get(key))}
 
 
 def flight_at(path: str) -> Optional[Flight]:
@@ -81,45 +82,80 @@ def flight_at(path: str) -> Optional[Flight]:
         return None
 
 
+# ---- what is wrong
+
+
+def faults_of(flight: Flight, made: Parser, given: list[str]) -> Iterator[Fault]:
+    """What is wrong with a flight, but for values that an option refuses, and what the command line has in its place."""
+    settings, what = flight.settings, run_fault(flight.settings)
+    if what:
+        yield Fault(settings.line(RUN), settings.document, RUN, what)
+    for key in OF_CHANNEL:
+        for channel in settings.channels:
+            value = channel.table.get(key)
+            if value is not None and not is_name(value):
+                what = f"{channel.name}: {key}: {type_of(value)}, and it must be a name in quotes"
+                yield Fault(channel.line(key), channel.table, key, what)
+    for key, value in flight.run.items():
+        what = key_fault(key, value, made, given)
+        if what:
+            yield Fault(settings.line_in(RUN, key), flight.run, key, f"[run] {what}")
+
+
+def run_fault(settings: Settings) -> str:
+    """What is wrong with a [run] that is no table."""
+    run = settings.document.get(RUN, {})
+    return "" if isinstance(run, dict) else f"run: {type_of(run)}, and it must be a table, as [run] begins it"
+
+
+def key_fault(key: str, value: Any, made: Parser, given: list[str]) -> str:
+    """What is wrong with a key of [run]; nothing of one that the command line has too."""
+    known = {it: action for action in made._actions for it in action.option_strings if it.startswith("--")}
+    option = option_of(key)
+    if key != OUT and (option not in known or option in ("--help", "--version")):
+        return f"has no key {key}{nearest(key, [*(it[2:].replace('-', '_') for it in known), OUT])}"
+    if is_given(key, given):
+        return ""
+    if key != OUT and known[option].nargs == 0:
+        return "" if isinstance(value, bool) else f"{key}: {type_of(value)}, and it must be true or false"
+    values = value if isinstance(value, list) and key != OUT else [value]
+    wrong = next((type_of(it) for it in values if not is_value(it)), None)
+    return f"{key}: {wrong}, and it must be a text or a number" if wrong else ""
+
+
+def is_name(value: Any) -> bool:
+    """Whether a value may be that of a channel's name or interface."""
+    return isinstance(value, str) and bool(value.strip()) and value.isprintable()
+
+
+def is_value(value: Any) -> bool:
+    """Whether a value may be that of an option which is no switch."""
+    return isinstance(value, (str, int, float)) and not isinstance(value, bool)
+
+
+# ---- as a command line
+
+
 def option_of(key: str) -> str:
     """The option that a key of [run] is."""
     return f"--{key.replace('_', '-')}"
 
 
-def words_of(flight: Flight, made: Parser, given: list[str]) -> list[str]:
+def is_given(key: str, given: list[str]) -> bool:
+    """Whether a command line has the option of a key."""
+    return any(it.partition("=")[0] == option_of(key) for it in given)
+
+
+def words_of(flight: Flight, given: list[str]) -> list[str]:
     """The options that [run] gives, as words, but for those that the command line has."""
-    known = {it: action for action in made._actions for it in action.option_strings if it.startswith("--")}
-    words = []
-    for key, value in flight.run.items():
-        option = option_of(key)
-        if key == OUT:
-            text_of(flight, key, value)
-            continue
-        if option not in known or option in ("--help", "--version"):
-            keys = [it[2:].replace("-", "_") for it in known] + [OUT]
-            raise Refusal(2, f"bpfrec live: {flight.file}: [run] has no key {key}{nearest(key, keys)}")
-        if not any(it == option or it.startswith(f"{option}=") for it in given):
-            words += option_words(flight, key, value, known[option].nargs == 0)
-    return words
+    asked = [(key, value) for key, value in flight.run.items() if key != OUT and not is_given(key, given)]
+    return [word for key, value in asked for word in option_words(key, value)]
 
 
-def option_words(flight: Flight, key: str, value: Any, is_switch: bool) -> list[str]:
+def option_words(key: str, value: Any) -> list[str]:
     """An option with its value, once for each value of a list; a switch where it is true."""
-    if is_switch:
-        if not isinstance(value, bool):
-            raise Refusal(2, f"bpfrec live: {flight.file}: [run] {key}: {type_of(value)}, and it must be true or false")
-        return [option_of(key)] * value
     values = value if isinstance(value, list) else [value]
-    return [f"{option_of(key)}={text_of(flight, key, it)}" for it in values]
-
-
-def text_of(flight: Flight, key: str, value: Any) -> str:
-    """The text or the number of a key."""
-    if isinstance(value, bool) or not isinstance(value, (str, int, float)):
-        raise Refusal(
-            2, f"bpfrec live: {flight.file}: [run] {key}: {type_of(value)}, and it must be a text or a number"
-        )
-    return str(value)
+    return [option_of(key) if it is True else f"{option_of(key)}={it}" for it in values if it is not False]
 
 
 def operands_with(flight: Flight, operands: list[str]) -> list[str]:
@@ -129,5 +165,5 @@ def operands_with(flight: Flight, operands: list[str]) -> list[str]:
     if out is not None and (not rest or is_route(rest[0])):
         rest = [out, *rest]
     given = {it.partition("=")[2].partition(":")[0] for it in rest[1:]}
-    named = [f"{interface}={channel}" for channel, interface in flight.routes.items() if str(channel) not in given]
+    named = [f"{interface}={channel}" for channel, interface in flight.routes().items() if str(channel) not in given]
     return [settings, *rest, *named] if rest else operands

@@ -11,7 +11,6 @@ from bpfrec.formats.settings import Channel, NoReader, Settings, reader
 from bpfrec_tools.cli import printing, program
 from bpfrec_tools.cli.arguments import Parser, name_of
 from bpfrec_tools.live.flight import flight_at
-from bpfrec_tools.live.kept.names import Refusal
 from bpfrec_tools.preflight.inputs import (
     judge_capture,
     judge_channel_feed,
@@ -79,7 +78,7 @@ def judge(given: argparse.Namespace, report: Report) -> None:
     if given.live is not None:
         judge_live(given.live, judge_settings, report)
         return
-    if is_flight(given.settings):
+    if flight_at(given.settings):
         judge_live([given.settings], judge_settings, report)
         return
     settings = read_settings(given.settings, report)
@@ -89,14 +88,6 @@ def judge(given: argparse.Namespace, report: Report) -> None:
     if given.capture is not None and judge_feed(given.capture, MAX_NUMBER, given.capture, report) and settings:
         for channel in valid:
             judge_capture(settings, channel, given.capture, report)
-
-
-def is_flight(settings: str) -> bool:
-    """Whether settings are those of a flight; so are those whose [run] is wrong, which is named then."""
-    try:
-        return flight_at(settings) is not None
-    except Refusal:
-        return True
 
 
 def judge_settings(

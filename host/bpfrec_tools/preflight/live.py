@@ -28,8 +28,8 @@ from bpfrec_tools.live.ahead import (
     refuse_signing,
     refuse_together,
 )
-from bpfrec_tools.live.arguments import Arguments, read
-from bpfrec_tools.live.flight import Flight, flight_of, without_flight
+from bpfrec_tools.live.arguments import Arguments, arguments_of, given_by
+from bpfrec_tools.live.flight import Flight, without_flight
 from bpfrec_tools.live.kept.clock_watch import by_others, by_the_kernel
 from bpfrec_tools.live.kept.names import Files, Refusal, is_special, refuse_long
 from bpfrec_tools.live.parts.adapters import asked
@@ -38,6 +38,7 @@ from bpfrec_tools.live.parts.folder import judge_settings as refuse_settings
 from bpfrec_tools.live.status import BadEndpoint, NoServer, endpoint_in
 from bpfrec_tools.live.status.server import Server
 from bpfrec_tools.live.targets import Target
+from bpfrec_tools.preflight.flights import UNKNOWN, interfaces_of, judge_flight, refusal_of, tell_flight
 from bpfrec_tools.preflight.keys import read_settings
 from bpfrec_tools.preflight.output import available_memory, judge_out
 from bpfrec_tools.preflight.report import Report
@@ -66,36 +67,36 @@ def judge_live(arguments: list[str], judge: Judge, report: Report) -> None:
     """Judges the arguments of a run of live. `judge` takes settings, the channels that have interfaces, and those whose
     filter is in words."""
     try:
-        given = read(arguments)
-        settings = read_settings(given.settings, report) if given.settings is not None else None
-        flight = flight_of(settings) if settings else None
+        line = given_by(arguments)
+        if line.flight:
+            judge_flight(line, line.flight, report)
+        given = arguments_of(line)
     except Refusal as refusal:
-        report.fault("live", without_name(refusal))
+        report.fault("live", refusal.what())
         return
+    settings = read_settings(given.settings, report) if given.settings is not None else None
     if settings:
         with_pipes(without_flight(settings), given)
+    is_right = not report.faults
     judge_refusals(given, settings, report)
-    if flight:
-        tell_flight(given, flight, report)
+    if line.flight and is_right:
+        tell_flight(given, line.flight, report)
     if settings:
         worded = words_in(settings, {it.channel for it in given.routes if gives_filter(it, given)})
         # Of a channel without an ID nobody knows whether it has an interface.
-        judge(settings, report, {None, *(it.channel for it in given.routes)}, {None, *worded})
-        for place, text in worded.values():
+        judge(settings, report, {None, *(it.channel for it in given.routes)}, {None, *(it for it, _ in worded)})
+        for _, (place, text) in worded:
             judge_words(given.settings or "", text, partial(listing_in_words, place, text), report)
     for route in given.routes:
         if route.expression:
             judge_words(route.interface, route.expression, partial(listing_of, route), report)
-    judge_live_out(given, settings, report)
+    if given.out != UNKNOWN:
+        judge_live_out(given, settings, report)
     judge_clock(given, report)
     for target in given.targets:
         judge_target(target, report)
     if given.routes and not given.reads_captures():
-        for route in given.routes:
-            judge_interface(route.interface, report)
-        judge_origin(given, report)
-        judge_permission(report)
-        judge_buffers(given, report)
+        judge_capture(given, line.flight, report)
 
 
 def judge_refusals(given: Arguments, settings: Optional[Settings], report: Report) -> None:
@@ -104,28 +105,11 @@ def judge_refusals(given: Arguments, settings: Optional[Settings], report: Repor
     calls = (refuse_together, refuse_endpoint, refuse_alarm_command, refuse_control, refuse_signing)
     refusals: list[Callable[[], object]] = [partial(it, given) for it in calls]
     refusals += [refuse_holder, partial(refuse_few_descriptors, given, count)]
-    refusals += [partial(refuse_settings, settings, given)] if settings else []
-    for refuse in refusals:
-        try:
-            refuse()
-        except Refusal as refusal:
-            report.fault("live", without_name(refusal))
-
-
-def tell_flight(given: Arguments, flight: Flight, report: Report) -> None:
-    """Says what will happen."""
-    named = [f"{it.interface} as channel {it.channel}{flight.shown_name(it.channel)}" for it in given.routes]
-    turns = [f", a new one after {given.every} s"] if given.every else []
-    turns += [f", a new one at {given.size} bytes"] if given.size else []
-    first = Names(given.out).next()[1] if given.is_rotating() else given.out
-    lines = [f"records {', '.join(named)}"] if named else []
-    lines += [f"into {first}{''.join(turns)}"]
-    lines += [f"publishes to {it.address}" for it in given.targets]
-    lines += [f"shows the status at {given.status}"] if given.status else []
-    lines += [f"takes lines at {given.control}"] if given.control else []
-    lines += [f"signs with {given.sign}"] if given.sign else []
-    for line in lines:
-        report.note(flight.file, line)
+    if settings:
+        known = settings._replace(channels=[it for it in settings.channels if it.id() is not None])
+        refusals += [partial(refuse_settings, known, given)]
+    for what in filter(None, map(refusal_of, refusals)):
+        report.fault("live", what)
 
 
 def refuse_endpoint(given: Arguments) -> None:
@@ -136,11 +120,6 @@ def refuse_endpoint(given: Arguments) -> None:
         Server(endpoint_in(given.status, given.status_names)).server_close()
     except (BadEndpoint, NoServer) as why:
         raise Refusal(why.status, f"bpfrec live: {why}") from None
-
-
-def without_name(refusal: Refusal) -> str:
-    """What live would say, without its name ahead."""
-    return refusal.line[len("bpfrec live: ") :] if refusal.line.startswith("bpfrec live: ") else refusal.line
 
 
 def with_pipes(settings: Settings, given: Arguments) -> None:
@@ -158,7 +137,7 @@ def judge_words(place: str, text: str, listing: Callable[[], str], report: Repor
         count = re.split("[,\n]", listing())[0]
         report.note(place, f"filter {text}: {count} instructions")
     except Refusal as refusal:
-        report.fault(place, without_name(refusal))
+        report.fault(place, refusal.what())
 
 
 def judge_live_out(given: Arguments, settings: Optional[Settings], report: Report) -> None:
@@ -169,7 +148,7 @@ def judge_live_out(given: Arguments, settings: Optional[Settings], report: Repor
         if os.path.isdir(os.path.dirname(out) or ".") and not is_special(out):
             refuse_long(out, bool(given.routes), given.sign is not None)
     except Refusal as refusal:
-        report.fault(out, without_name(refusal))
+        report.fault(out, refusal.what())
         return
     if given.is_rotating() and is_special(given.out):
         report.fault(given.out, "--every and --size make files, and it is not a file")
@@ -189,6 +168,15 @@ def judge_clock(given: Arguments, report: Report) -> None:
 
 
 # ---- interfaces
+
+
+def judge_capture(given: Arguments, flight: Optional[Flight], report: Report) -> None:
+    """What the capture of interfaces needs."""
+    for interface in interfaces_of(given, flight):
+        judge_interface(interface, report)
+    judge_origin(given, report)
+    judge_permission(report)
+    judge_buffers(given, report)
 
 
 def judge_interface(interface: str, report: Report) -> None:

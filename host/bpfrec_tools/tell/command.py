@@ -14,7 +14,7 @@ from bpfrec.formats.names import split
 from bpfrec_tools.cli import printing
 from bpfrec_tools.cli.arguments import Parser, name_of
 from bpfrec_tools.cli.quantities import seconds
-from bpfrec_tools.live.flight import flight_at
+from bpfrec_tools.live.flight import flight_at, run_fault
 from bpfrec_tools.live.kept.names import Refusal
 
 ABOUT = """\
@@ -77,6 +77,8 @@ def sockets_in(settings: str) -> list[str]:
     """The socket that settings name, or the one beside their `out`: from their folder, and from this one, since live may
     have been started in either."""
     flight = flight_at(settings)
+    if flight and run_fault(flight.settings):
+        raise Refusal(2, f"{settings}: {run_fault(flight.settings)}")
     control, out = (flight.run.get("control"), flight.out()) if flight else (None, None)
     meant = control if isinstance(control, str) else f"{split(out)[0]}{ENDING}" if out else None
     return [os.path.join(it, meant) for it in (os.path.dirname(settings), "")] if meant else []
@@ -141,7 +143,7 @@ def run(arguments: list[str]) -> int:
     try:
         path = socket_of(given.run)
     except Refusal as refusal:
-        printing.err(f"{name_of('tell')}: {refusal.line.removeprefix('bpfrec live: ')}")
+        printing.err(f"{name_of('tell')}: {refusal.what()}")
         return refusal.status
     try:
         return ask_all(path, [words] if words else (it for it in typed if it), given.wait)

@@ -24,6 +24,10 @@ class Refusal(Exception):
         super().__init__(line)
         self.status, self.line = status, line
 
+    def what(self) -> str:
+        """The same without the name of live ahead."""
+        return self.line.removeprefix("bpfrec live: ")
+
 
 def unreadable(path: str) -> Optional[str]:
     """Why a file can't be read; None where it can."""

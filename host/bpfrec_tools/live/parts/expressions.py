@@ -91,13 +91,14 @@ def gives_filter(route: Route, given: Arguments) -> bool:
     return bool(route.expression) or given.settings is None
 
 
-def words_in(settings: Settings, given: Container[int]) -> dict[int, tuple[str, str]]:
-    """The filters that settings give in words, by channel, each with its place; but of channels with another filter."""
-    found = {}
+def words_in(settings: Settings, given: Container[int]) -> list[tuple[int, tuple[str, str]]]:
+    """The filters that settings give in words, each with its channel and its place; but of channels with another
+    filter."""
+    found = []
     for channel in settings.channels:
         named, text = channel.table.get("id"), channel.path("filter")
         if isinstance(named, int) and named not in given and text is not None and is_in_words(text):
-            found[named] = (f"filter {text} of {channel.name}", text)
+            found.append((named, (f"filter {text} of {channel.name}", text)))
     return found
 
 

@@ -78,8 +78,8 @@ def judge_settings(settings: Settings, given: Arguments) -> None:
     without interfaces of recordings that follow one another."""
     wanted = {it.channel for it in given.routes}
     for channel in settings.channels:
-        named = channel.id()
-        if given.is_rotating() and named is not None and named not in wanted:
+        named = channel.table.get("id")
+        if given.is_rotating() and type(named) is int and named not in wanted:
             what = "bpfrec live: --every and --size need an interface for each channel"
             raise Refusal(2, f"{what}, and {named} of {given.settings} has none")
     for route in given.routes:
@@ -107,7 +107,7 @@ class Folder:
         self.names = texts_of(settings_of("-", text), "name")
         # The listings of filters that the arguments give channels, or SETTINGS in words.
         self.listings = {it.channel: listing_of(it) for it in given.routes if gives_filter(it, given)}
-        self.words = words_in(settings, {it.channel for it in given.routes if gives_filter(it, given)})
+        self.words = dict(words_in(settings, {it.channel for it in given.routes if gives_filter(it, given)}))
         self.listings |= {channel: listing_in_words(*named) for channel, named in self.words.items()}
         self.keeps_filters, self.spans = given.is_rotating(), spans_of(settings, given)
         self.holder = os.environ.get("TMPDIR") or "/tmp"
