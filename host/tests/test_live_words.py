@@ -67,6 +67,7 @@ def test_a_filter_is_in_words_where_it_is_no_listing_and_no_file_that_is_missing
     ]:
         judge(text, is_in_words(text) == wanted)
     judge("a text is assembled", arguments_for("text.bpf", "bpfrec") == ["bpfrec", "asm", "./text.bpf"])
+    judge("all frames need none", arguments_for("all", "bpfrec") == arguments_for("", "") == ["echo", ALL_FRAMES])
     words = arguments_for("arp", "bpfrec") or []
     judge("of an expression tcpdump makes one", words[-4:] == ["EN10MB", "-ddd", "--", "arp"], words)
     monkeypatch.setenv("PATH", "")

@@ -30,7 +30,8 @@ def type_line(running: Running, line: str) -> None:
 
 
 def test_filters_are_set_in_words_one_after_the_other(work: Path) -> None:
-    """An expression, a text for the assembler, and a listing: each from the next frame on, in the order of the lines."""
+    """An expression, a text for the assembler, a listing, and the word for all frames: each from the next frame on, in the
+    order of the lines."""
     (work / "drops.bpf").write_text("; none\n ret #0\n")
     (work / "keeps").write_text("1,6 0 0 1,")
     out = work / "words.ch11"
@@ -40,6 +41,8 @@ def test_filters_are_set_in_words_one_after_the_other(work: Path) -> None:
             ("set 1 udp port 5004", "installed 1 1 "),
             (f"set 1 {work}/drops.bpf", "installed 1 2 "),
             (f"set 1 {work}/keeps", "installed 1 3 "),
+            (f"set 1 {work}/drops.bpf", "installed 1 4 "),
+            ("set 1 all", "installed 1 5 "),
         ]:
             type_line(running, line)
             running.wait_until_told(answer)
@@ -54,7 +57,7 @@ def test_filters_are_set_in_words_one_after_the_other(work: Path) -> None:
     type_line(running, "stop")
     judge("it ends as by a signal", running.ended()[0] == 0, running.told())
     found = [it.frame[36:38] for it in records(extracted(work, out, 1))]
-    wanted = [port.to_bytes(2, "big") for port in (5_004, 5_004, 5_005)]
+    wanted = [port.to_bytes(2, "big") for port in (5_004, 5_004, 5_005, 5_004, 5_005)]
     judge("each filter held for its frames", found == wanted, found)
 
 

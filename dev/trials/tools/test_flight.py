@@ -61,6 +61,15 @@ def test_a_flight_records_what_its_options_and_interfaces_say(folder: Path) -> N
     judge("the same as by the command line", given == told.replace("out.ch11", "plain.ch11"))
 
 
+def test_all_is_the_filter_of_all_frames(folder: Path) -> None:
+    channel = '[[channel]]\nid = 1\nfilter = "all"\ninterface = "one.pcap"'
+    told = recorded(folder, flight(folder, 'out = "out.ch11"\nquiet = true', channel))
+    judge("of settings", "channel 1 versions 1 offered 60 kept 60 " in told, told)
+    told = recorded(folder, "--quiet", "line.ch11", "one.pcap=1:all")
+    judge("of the command line", "channel 1 versions 1 offered 60 kept 60 " in told, told)
+    judge("by its name", ": all\n" in run(TOOLS / "info", "line.ch11", cwd=folder))
+
+
 def test_the_command_line_wins(folder: Path) -> None:
     path = flight(folder, 'out = "out.ch11"\nmode = "0640"\nquiet = true')
     recorded(folder, path, "--mode", "0600", "other.ch11")

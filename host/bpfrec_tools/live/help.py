@@ -10,12 +10,12 @@ INTERFACE=CHANNEL names by its channel ID. With SETTINGS each interface is one o
 feed; a channel without an interface keeps the feed that SETTINGS gives it. INTERFACE=CHANNEL:EXPRESSION gives a channel
 the filter that tcpdump makes of an expression, as eth0=1:'udp port 53', with VLAN tags as they are on the wire.
 FLIGHT is SETTINGS that need no other word. Each key of its table [run] is an option, as every = "10min" or
-chapter11 = true, and `out` is OUT. A [[channel]] must have `id` and `filter`, where "" keeps all frames, names its
+chapter11 = true, and `out` is OUT. A [[channel]] must have `id` and `filter`, where "all" keeps all frames, names its
 `interface`, and may have a `name`. The command line wins. `bpfrec preflight flight.toml` says what is wrong.
 In the places of interfaces captures may stand, files that end in .pcap, .pcapng or .cap, as flight.pcap=1:'udp port 53'.
 Their origin is the earliest of their frames, or that of --origin.
 Lines on standard input change filters: `set <channel> <filter>`, where the filter is a file that is a listing or a text
-for bpfrec asm, or an expression, as `set 7 udp port 5004`. `mark TEXT` notes an event in the facts of the recording,
+for bpfrec asm, an expression, as `set 7 udp port 5004`, or all. `mark TEXT` notes an event in the facts of the recording,
 with its counter and its time. `status` prints how the run goes, `next` begins the next recording of --every or --size,
 `stop` ends the run, and `help` prints what there is. --for SECONDS ends it after that time.
 

@@ -20,7 +20,7 @@ def answer(asker: Asker, text: str, is_done: bool) -> None:
 
 HELP = """\
 set CHANNEL FILTER  gives a channel another filter: a file that is a listing or a text for bpfrec asm, or an expression
-                    of tcpdump, as set 7 udp port 5004
+                    of tcpdump, as set 7 udp port 5004; all keeps all frames
 mark TEXT           notes an event in the facts of the recording, with its counter and time, as mark gear up
 status              prints how the run goes and a line for each channel
 next                begins the next recording, with --every or --size

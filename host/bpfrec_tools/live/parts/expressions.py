@@ -54,6 +54,8 @@ def arguments_for(text: str, bpfrec: str) -> Optional[list[str]]:
     of no interface: so it finds the tags of VLANs in the frames' bytes, as the wire and the recorder have them."""
     if os.path.lexists(text):
         return [bpfrec, "asm", text if text.startswith("/") else f"./{text}"]
+    if text.strip() in ("", ALL):
+        return ["echo", ALL_FRAMES]
     tcpdump = shutil.which("tcpdump")
     if tcpdump is None:
         return None
