@@ -1,10 +1,12 @@
 """Tries bpfrec export on recordings of several recorders, and of many channels."""
 
+import json
 import resource
 from pathlib import Path
 
 import pytest
-from frames import FRAMES, body_of, numbered, packet_of, with_check_sequence
+from frames import FRAMES, body_of, numbered, packet_of, program_packet, with_check_sequence
+from pcapng import described
 from seen_frames import seen_in
 from several_recorders import facts_by, recording_at
 from support import EXPORT, INFO, judge, outcome, run
@@ -113,6 +115,48 @@ def test_interfaces_of_one_name_are_told_by_their_channels(work: Path) -> None:
     )
     names, _ = captured(work, one, two)
     judge("each has another name", names == ["eth0 of fc1, channel 1", "eth0 of fc1, channel 2"], names)
+
+
+@pytest.mark.parametrize("origin", ["1764590400", "1764590401"])
+def test_two_runs_of_hosts_of_one_name_are_two_recorders(work: Path, origin: str) -> None:
+    """Also where both have the origin that --origin names: then by the names of the runs."""
+    runs = [facts_by("fc1", "eth0"), facts_by("fc1", "eth0", [(f"{origin}.000000000", 0, None)])]
+    one = recording_at(work / "tap1.ch11", [0, 20], 1, {**runs[0], "recording": "tap1.ch11"})
+    two = recording_at(work / "tap2.ch11", [10, 30], 2, {**runs[1], "recording": "tap2.ch11"})
+    names, seen = captured(work, one, two)
+    judge("two names", names == [f"eth0 of fc1, channel 1 of {it}.ch11" for it in ("tap1", "tap2")], names)
+    judge("two interfaces", {it for it, _ in seen} == {0, 1}, seen)
+
+
+def recording_of_filters(path: Path, filters: list[tuple[int, str]], counter: int) -> Path:
+    """A recording of eth0 with a frame by each of these filters, which keep a number of bytes, with their words."""
+    frame, parts = with_check_sequence(numbered(0)), []
+    for version, (kept, _) in enumerate(filters):
+        parts.append(program_packet(1, version, (6, 0, 0, kept)))
+        parts.append(packet_of(1, body_of([(counter + version, 0, frame)]), version, FRAMES, counter + version, True))
+    path.write_bytes(b"".join(parts))
+    words = [{"channel": 1, "listing": f"1,6 0 0 {kept},", "expression": words} for kept, words in filters]
+    facts = {**facts_by("fc1", "eth0"), "recording": path.name, "filters": words}
+    Path(f"{path}.json").write_text(json.dumps(facts))
+    return path
+
+
+def test_a_filter_has_its_words_and_is_said_where_it_changes(work: Path) -> None:
+    """Not where the next recording of a run goes on with it."""
+    filters: list[list[tuple[int, str]]] = [[(1, "udp"), (2, "arp")], [(2, "arp"), (1, "udp")], [(1, "udp 1")]]
+    for number, each in enumerate(filters):
+        recording_of_filters(work / f"run_0000{number}.ch11", each, 10 * number)
+    run(EXPORT, work / "run.ch11", work / "run.pcapng")
+    first, *comments = [it.comment for it in described((work / "run.pcapng").read_bytes())]
+    judge("ahead", first.startswith("filter version 0, 1 instructions: udp\nret #1\nchannel 1: "), first)
+    changes = [
+        "",
+        "1, 1 instructions: arp\nret #2",
+        "",
+        "1, 1 instructions: udp\nret #1",
+        "0, 1 instructions: udp 1\nret #1",
+    ]
+    judge("at each change", comments == [it and f"filter version {it}" for it in changes], comments)
 
 
 def test_recordings_without_facts_are_of_a_recorder_each(work: Path) -> None:

@@ -14,6 +14,10 @@ from bpfrec_tools.check.order import Place, place_of
 from bpfrec_tools.cli.streams import Refused
 
 
+# A run with its name, since recorders of one origin may have one host's name.
+NamedRun = tuple[Run, str]
+
+
 class Recorded(NamedTuple):
     """A recording: its path, its facts, and the network identifiers of its channels."""
 
@@ -23,11 +27,11 @@ class Recorded(NamedTuple):
 
     def name(self) -> str:
         """What it was called when it was recorded."""
-        return self.facts.recording or os.path.basename(self.path)
+        return name_at(self.path, self.facts)
 
-    def run(self) -> tuple[Run, str]:
-        """The run that it is of, with the run's name."""
-        return run_of(self.facts), self.place().run
+    def run(self) -> NamedRun:
+        """The run that it is of."""
+        return named_run(self.path, self.facts)
 
     def place(self) -> Place:
         """Its number in the names of its run."""
@@ -36,6 +40,16 @@ class Recorded(NamedTuple):
     def is_next_to(self, before: Recorded) -> bool:
         """Whether it follows another one, and none is missing between them."""
         return before.facts.following == self.name() or self.facts.before == before.name()
+
+
+def name_at(path: str, facts: Facts) -> str:
+    """What a recording was called when it was recorded."""
+    return facts.recording or os.path.basename(path)
+
+
+def named_run(path: str, facts: Facts) -> NamedRun:
+    """The run of a recording."""
+    return run_of(facts), place_of(name_at(path, facts)).run
 
 
 class Missing(NamedTuple):
@@ -57,7 +71,7 @@ def judge_twice(recordings: list[Recorded]) -> None:
 def runs_of(recordings: list[Recorded]) -> list[list[Recorded]]:
     """Recordings by their runs, each in its order, at the place of the first of its recordings."""
     places = {it.path: place for place, it in enumerate(recordings)}
-    by_run: dict[tuple[Run, str], list[Recorded]] = {}
+    by_run: dict[NamedRun, list[Recorded]] = {}
     for recorded in recordings:
         by_run.setdefault(recorded.run(), []).append(recorded)
     runs = [run for them in by_run.values() for run in parted(sorted(them, key=Recorded.place))]

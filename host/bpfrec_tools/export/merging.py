@@ -9,12 +9,14 @@ from collections import Counter, deque
 from typing import Iterable, Iterator, NamedTuple, Optional, Union
 
 from bpfrec.core.index import Channel
-from bpfrec.core.recordings import Recorder, Recording, Run, last_moments
+from bpfrec.core.recordings import Recording, Run, last_moments
 from bpfrec.core.times import Order, places_in
 from bpfrec.formats import pcapng_blocks
 from bpfrec.formats.body import LENGTH_BITS, MARKS, Range, chosen
+from bpfrec.formats.facts import on_a_line
 from bpfrec.formats.limits import INSN_LEN
 from bpfrec.formats.records import Program
+from bpfrec_tools.chapter11.runs import NamedRun, named_run
 from bpfrec_tools.cli.program import Texts
 from bpfrec_tools.export.times import moment_in
 
@@ -94,6 +96,11 @@ class Part(NamedTuple):
     recording: Recording
     slice: Slice
 
+    def words_of(self, program: Program) -> str:
+        """The words of which a program was made, by the facts; nothing where they aren't known."""
+        facts = self.recording.facts
+        return on_a_line(facts.expression_of(program.channel, program.insns) or "") if facts else ""
+
 
 class Interface:
     """A channel of one recorder, which is an interface of the capture; its recordings may follow one another."""
@@ -101,11 +108,11 @@ class Interface:
     def __init__(self, number: int, channel: int, recordings: list[Sliced]) -> None:
         self.number, self.channel = number, channel
         self.parts = [Part(it, Slice(it, channel, ranges)) for it, ranges in recordings]
-        # The program that was told last.
-        self.told = next((it for it in (first_program(part.slice) for part in self.parts) if it), None)
+        # The program that was told last, with what has it.
+        self.told = next(((it, found) for it in self.parts if (found := first_program(it.slice))), None)
         first, _ = recordings[0]
         self.name = first.name_of(channel) or f"channel {channel}"
-        self.source = first.recorder_of(channel).source
+        self.source, self.file = first.recorder_of(channel).source, os.path.basename(first.path)
 
     def counts(self) -> str:
         """How many frames were offered and kept, by the records of the channel's ends."""
@@ -119,26 +126,31 @@ class Interface:
 
     def names(self) -> list[str]:
         """Its name, and longer ones for where another interface has that too."""
-        return [self.name, f"{self.name} of {self.source}", f"{self.name} of {self.source}, channel {self.channel}"]
+        longer = f"{self.name} of {self.source}"
+        return [self.name, longer, f"{longer}, channel {self.channel}", f"{longer}, channel {self.channel} of {self.file}"]
 
     def description(self, texts: Texts, name: str) -> bytes:
         """The block that describes it: its name, its first program and its counts."""
         # One comment, since some programs show no second.
-        comment = f"{program_text([self.told], texts)}\n" if self.told else ""
+        comment = ""
+        if self.told:
+            part, program = self.told
+            comment = f"{program_text([program], texts, part.words_of(program))}\n"
         return pcapng_blocks.interface(name, f"channel {self.channel}", comment, self.counts())
 
     def changes(self, part: Part, frame: Frame) -> list[Program]:
         """The programs of a recording since the one that was told last, up to that of a frame; none where that is the
         same."""
-        programs, told = part.slice.channel.programs, self.told
+        programs = part.slice.channel.programs
         program = programs[frame.program] if frame.program >= 0 else None
-        if program is None or program == told:
+        if program is None or self.told == (part, program):
             return []
-        self.told = program
-        if told is not None and told not in programs:
-            # It was another recording's: of this one the program in force alone is told.
-            return [program]
-        begin = 0 if told is None else programs.index(told) + 1
+        (before, told), self.told = self.told or (part, None), (part, program)
+        if told and before != part:
+            # It was another recording's: of this one the program in force alone is told, unless it is the same.
+            is_same = (before.words_of(told), told.insns) == (part.words_of(program), program.insns)
+            return [] if is_same else [program]
+        begin = programs.index(told) + 1 if told else 0
         return programs[min(begin, frame.program) : frame.program + 1]
 
     def skipped(self) -> int:
@@ -165,9 +177,9 @@ def version_text(programs: list[Program]) -> str:
     return f"filter versions {programs[0].version} to {last.version}, the last of {insns}"
 
 
-def program_text(programs: list[Program], texts: Texts) -> str:
-    """The same, with the text of the last one."""
-    return f"{version_text(programs)}\n{texts.text_of(programs[-1].insns)}"
+def program_text(programs: list[Program], texts: Texts, words: str = "") -> str:
+    """The same, with the words of which the last one was made, and its text."""
+    return f"{version_text(programs)}{words and f': {words}'}\n{texts.text_of(programs[-1].insns)}"
 
 
 def recording_text(recording: Recording) -> str:
@@ -179,12 +191,13 @@ def recording_text(recording: Recording) -> str:
 
 
 def interfaces_of(recordings: list[Sliced], asked: Optional[list[Union[int, str]]]) -> list[Interface]:
-    """The channels of recordings that are asked for by their IDs or interfaces, or else all, by recorder."""
-    found: dict[tuple[int, Recorder], list[Sliced]] = {}
+    """The channels of recordings that are asked for by their IDs or interfaces, or else all, by run."""
+    found: dict[tuple[int, Union[NamedRun, str]], list[Sliced]] = {}
     for recording, ranges in recordings:
         every = set(recording.index.channels) if asked is None else set().union(*map(recording.channels_of, asked))
+        facts, path = recording.facts, recording.path
         for channel in every:
-            found.setdefault((channel, recording.recorder_of(channel)), []).append((recording, ranges))
+            found.setdefault((channel, named_run(path, facts) if facts else path), []).append((recording, ranges))
     in_order = sorted(found.items(), key=lambda entry: entry[0][0])
     return [Interface(number, channel, parts) for number, ((channel, _), parts) in enumerate(in_order)]
 
@@ -231,6 +244,6 @@ class Capture:
             options = b""
             if said or programs or frame.marks:
                 # One comment, since some programs show no second.
-                said += [program_text(programs, self.texts)] if programs else []
+                said += [program_text(programs, self.texts, part.words_of(programs[-1]))] if programs else []
                 options = pcapng_blocks.packet_options(frame.marks, "\n".join(said) if said else None)
             yield pcapng_blocks.packet(interface.number, moment, frame.bytes, options)
