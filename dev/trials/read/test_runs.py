@@ -96,6 +96,19 @@ def test_check_has_one_answer_and_sees_what_is_missing(flight: Path) -> None:
     judge("so the answer is no", done.stdout.endswith("\nno\n"), done)
 
 
+def test_info_and_a_capture_say_which_is_missing_in_the_middle(flight: Path, work: Path) -> None:
+    first, middle, last = parts_of(flight)
+    middle.unlink()
+    done = outcome(INFO, flight)
+    lines = [it for it in done.stdout.splitlines() if it.startswith(("flight_", "recordings"))]
+    judge("info, behind the one before", lines[0].endswith("  yes other 0, next missing: flight_00002.ch11"), lines)
+    judge("and behind no other", done.returncode == 0 and "missing" not in "".join(lines[1:]), lines)
+    done = outcome(EXPORT, flight, work / "run.pcapng")
+    line = f"bpfrec export: {first}: next missing: flight_00002.ch11\n"
+    judge("export", (done.returncode, done.stderr) == (0, line) and done.stdout.startswith("frames 4 "), done)
+    judge("of the last alone nothing", outcome(EXPORT, last, work / "last.pcapng").stderr == "")
+
+
 def test_follow_and_python_take_it(flight: Path) -> None:
     with bpfrec.open(flight) as recording:
         counters = [it.counter for it in recording]

@@ -4,7 +4,7 @@ missing there."""
 from __future__ import annotations
 
 import os
-from typing import NamedTuple, Optional
+from typing import Iterable, NamedTuple, Optional
 
 from bpfrec.core.recordings import Run, run_of
 from bpfrec.formats.facts import Facts
@@ -94,6 +94,11 @@ def missing_in(runs: list[list[Recorded]]) -> list[Missing]:
     """What is missing between recordings of runs."""
     pairs = [pair for run in runs for pair in zip(run, run[1:])]
     return [missing_between(*pair) for pair in pairs if not pair[1].is_next_to(pair[0])]
+
+
+def missing_among(recordings: Iterable[tuple[str, Optional[Facts]]]) -> list[Missing]:
+    """What is missing between recordings at these paths, by their facts."""
+    return missing_in(runs_of([Recorded(path, facts, Networks()) for path, facts in recordings if facts]))
 
 
 def missing_between(before: Recorded, after: Recorded) -> Missing:

@@ -14,6 +14,7 @@ from bpfrec.core.times import Times
 from bpfrec.formats import facts
 from bpfrec.formats.names import facts_path
 from bpfrec.formats.packet import Fault
+from bpfrec_tools.chapter11.runs import missing_among
 from bpfrec_tools.cli import printing
 from bpfrec_tools.cli.arguments import channel_id, name_of
 from bpfrec_tools.cli.progress import Progress
@@ -177,6 +178,8 @@ def make(given: argparse.Namespace, line: Optional[str] = None) -> int:
     recordings = recordings_at(given)
     judge_times(recordings)
     judge_asked(recordings, given.channel or [])
+    for missing in missing_among((it.path, it.facts) for it, _ in recordings):
+        err(f"{missing.behind}: next missing: {missing.names}")
     interfaces = interfaces_of(recordings, given.channel)
     count = write(given.out, recordings, interfaces, given.quiet)
     line = line or f"frames {count} skipped {sum(it.skipped() for it in interfaces)}"

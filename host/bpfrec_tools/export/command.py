@@ -25,10 +25,10 @@ recordings.
 
 A capture has all time of the recordings or a slice of it, and all channels or some. Each channel of a recorder is an
 interface, with the name that the facts beside the recording have for it. A recorder is a run of a host, by the facts;
-recordings without facts are of a recorder each. Frames stand in the order in which they came, so times step
-back where a clock was set back. Frames have their frame check sequence (FCS) and their error flags. Comments have the
-first filter of each channel, or the one in force where the slice begins, with its words and the counts of the channel,
-and at the first frame after a change the filter from there on. The comment of the capture has the recordings and their marks, and
+recordings without facts are of a recorder each. Frames stand in the order in which they came, so times step back where
+a clock was set back. Frames have their frame check sequence (FCS) and their error flags. Comments have the first filter
+of each channel, or the one in force where the slice begins, with its words and the counts of the channel, and at the
+first frame after a change the filter from there on. The comment of the capture has the recordings and their marks, and
 a mark is a comment of the first frame of its run that comes then or later.
 
 A whole Chapter 11 file has a setup record (TMATS), time packets and an index, and all frames, programs and ends of the
@@ -49,8 +49,8 @@ last; that of --to is the first since --from. So of recordings over several days
 Recordings of several recorders become one file, by the clock of each, and in a whole file recordings of one run become
 one, in their order. There the first that has a channel ID keeps it. Another gets the least ID that no recording has and
 no other got, and a line is printed: `channel 1 of tap2.ch11 is 3`. Each then needs its facts, by which a run is known,
-and what is missing in it: that is refused without --gaps. If a clock was set by over a second, frames before that have
-times by the clock as it was set then, and a line says so.
+and what is missing in it: that is refused without --gaps, and said on standard error of a capture. If a clock was set
+by over a second, frames before that have times by the clock as it was set then, and a line says so.
 
 As RECORDING of a capture `-` is standard input, and a pipe is copied into TMPDIR. Of a capture it prints
 `frames <n> skipped <m>`, on standard error if OUT is standard output: m frames have another content, or fewer than 18

@@ -40,7 +40,8 @@ is ahead. Where nobody knows how the clock ran, `scale unknown` stands behind it
 that of their counters.
 
 RECORDING may be the name of a run, which is all its recordings. Of several it prints a table of channels over all of them,
-with first and last times, and a line for each recording with its audit; --json has an object for each.
+with first and last times, and a line for each recording with its audit and what is missing behind it; --json has an
+object for each.
 
 RECORDING may be a whole Chapter 11 file too. By its setup record it prints the host, the program, whose clock it was
 and the names of channels. By its time packets it prints the times of the first and last of these, and those of each

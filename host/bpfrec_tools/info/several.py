@@ -5,6 +5,7 @@ from __future__ import annotations
 import os
 from typing import Iterator, NamedTuple, Optional
 
+from bpfrec_tools.chapter11.runs import missing_among
 from bpfrec_tools.cli.program import Audit
 from bpfrec_tools.info.contents import Channel, Recording
 from bpfrec_tools.info.facts_file import FactsFile, time_of
@@ -66,12 +67,15 @@ def channel_lines(parts: list[Part]) -> Iterator[str]:
 
 
 def recording_lines(parts: list[Part]) -> Iterator[str]:
-    """A line for each recording: its bytes, its frames, what the audit says, and what is to be seen at once."""
+    """A line for each recording: its bytes, its frames, what the audit says, and what is to be seen at once, as what is
+    missing behind it."""
     width = max(len("recording"), *(len(os.path.basename(it.path)) for it in parts))
+    missing = missing_among((it.path, it.beside and it.beside.known) for it in parts)
     yield f"{'recording':<{width}} {'bytes':>15} {'frames':>13}  audit"
     for part in parts:
         frames = sum(it.frames for it in part.recording.channels.values())
-        remarks = "".join(f", {it}" for it in part.remarks())
+        missed = [f"next missing: {it.names}" for it in missing if it.behind == part.path]
+        remarks = "".join(f", {it}" for it in [*part.remarks(), *missed])
         name = os.path.basename(part.path)
         yield f"{name:<{width}} {part.recording.bytes:>15,} {frames:>13,}  {part.audit}{remarks}"
 
