@@ -11,6 +11,7 @@ import tracemalloc
 from pathlib import Path
 
 import pytest
+from bpfrec_tools.live.status.channel import Channel
 from frames import end_packet
 from scripted import (
     BEGIN,
@@ -44,6 +45,18 @@ def test_an_interface_that_was_away_before_the_recording_began_is_so_in_it(work:
 
 
 # ---- a minute
+
+
+def test_what_was_kept_has_come(work: Path) -> None:
+    """The capture's counts of a second may be older than what the recording has."""
+    channel = Channel(Setup(1, "eth0"), 0.0)
+    judge("where nobody counts", channel.view(0.5).counts is None)
+    channel.count(Counts(10, 640, 1, 0, 0, 5), 1.0)
+    channel.keep(12, 768, 1.5)
+    found = channel.view(1.6)
+    judge("as many at least", found.counts == Counts(12, 768, 1, 0, 0, 5), found.counts)
+    channel.count(Counts(30, 1_920, 1, 0, 0, 5), 2.0)
+    judge("and then more", channel.view(2.1).counts == channel.counts)
 
 
 def test_a_minute_of_two_channels_has_the_numbers_that_were_played(work: Path) -> None:

@@ -224,6 +224,19 @@ def test_a_channel_may_be_named_by_its_interface(work: Path) -> None:
     judge("its frames alone", numbers == [2_000, 2_001], numbers)
 
 
+def test_a_channel_may_be_named_with_its_host(work: Path) -> None:
+    """As the capture of several calls it."""
+    hosts = {1: facts_by("fc1", "eth0"), 2: facts_by("fc2", "eth0")}
+    hosts[2]["interfaces"] = [{"interface": "eth0", "channel": 1, "name": "bus A"}]
+    one, two = (recording_at(work / f"{it}.ch11", [10 * it, 30], it, hosts[it]) for it in hosts)
+    for name, wanted in {"eth0 of fc1": [1_000, 1_001], "bus A (eth0) of fc2": [2_000, 2_001]}.items():
+        run(EXPORT, "--force", "--channel", name, one, two, work / "slice.pcapng")
+        numbers = [int.from_bytes(it.bytes[14:22], "big") for it in seen_in(work / "slice.pcapng")]
+        judge(name, numbers == wanted, numbers)
+    done = outcome(EXPORT, "--force", "--channel", "eth0 of fc3", one, two, work / "slice.pcapng")
+    judge("one that is none", done.returncode == 1 and "no channel eth0 of fc3" in done.stderr, done)
+
+
 @pytest.mark.parametrize("has_facts", [False, True])
 def test_an_interface_that_is_not_known_is_refused(work: Path, has_facts: bool) -> None:
     one = recording_at(work / "one.ch11", [0], 1, facts_by("fc1", "eth0") if has_facts else None)

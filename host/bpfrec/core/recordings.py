@@ -58,9 +58,12 @@ class Recording:
         return Run(self.path, self.times.known[0].text) if self.facts is None else run_of(self.facts)
 
     def channels_of(self, asked: Union[int, str]) -> set[int]:
-        """The channels of an ID, of an interface, or of a name."""
-        names = self.facts.names if self.facts else {}
-        return {it for it in self.index.channels if asked in (it, self.interface_of(it), names.get(it))}
+        """The channels of an ID, of an interface, of a name, or of what they are called with their host."""
+        facts = self.facts
+        if facts is None:
+            return {it for it in self.index.channels if it == asked}
+        names = {it: f"{facts.shown_name(it)} of {facts.host}" for it in self.index.channels}
+        return {it for it in names if asked in (it, facts.interfaces.get(it), facts.names.get(it), names[it])}
 
 
 def last_moments(recordings: Iterable[Recording]) -> dict[Run, int]:

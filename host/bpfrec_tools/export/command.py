@@ -120,7 +120,7 @@ def add_slice(options: argparse._ArgumentGroup) -> None:
     """The options that say what of the recordings a capture has."""
     options.add_argument("--from", dest="since", metavar="TIME", type=time_of, help="frames from this time on")
     options.add_argument("--to", dest="until", metavar="TIME", type=time_of, help="frames before this time")
-    named = "this channel, by its ID, its name or its interface; several times"
+    named = "this channel, by its ID, its name or its interface, also as 'eth0 of tap2'; several times"
     options.add_argument("--channel", metavar="N", type=pcapng.channel_of, action="append", help=named)
 
 

@@ -144,13 +144,16 @@ class Channel:
         return Unkept(now - self.kept_at, max(frames, 0), max(self.counts.bytes - self.offered_when_kept.bytes, 0))
 
     def view(self, now: float) -> ChannelView:
-        """The channel at this moment."""
+        """The channel at this moment. What came and what was kept are read at moments of their own, and what was kept has
+        come."""
+        counts, kept = self.counts, (self.kept_frames, self.kept_bytes)
+        came = counts and counts._replace(frames=max(counts.frames, kept[0]), bytes=max(counts.bytes, kept[1]))
         return ChannelView(
             channel=self.channel,
             interface=self.interface,
             name=self.name,
             version=self.version,
-            counts=self.counts,
+            counts=came,
             counts_age=since(self.counted_at, now),
             frame_age=since(self.frame_at, now),
             lost_age=since(self.lost_at, now),
