@@ -132,10 +132,7 @@ DAMAGES = {
     "sync": (b"\0" + OTHER[1:], "2 Sync"),
     "checksum": (OTHER[:22] + b"\x77\x77" + OTHER[24:], "3 Checksum"),
     "no multiple of 4": (header_of(2, (len(OTHER) + 1, 9), 0, FRAMES, 0, False) + OTHER[24:], "4 Length"),
-    "data beyond the packet": (
-        header_of(2, (len(OTHER), len(OTHER)), 0, FRAMES, 0, False) + OTHER[24:],
-        "4 Length",
-    ),
+    "data beyond the packet": (header_of(2, (len(OTHER), len(OTHER)), 0, FRAMES, 0, False) + OTHER[24:], "4 Length"),
     "frames beyond any packet": (header_of(2, (1 << 20, 9), 0, FRAMES, 0, False) + OTHER[24:], "4 Length"),
     "body": (packet_of(2, TOO_MANY, 0, FRAMES, 0, False), "5 Body"),
     "zeros": (bytes(len(OTHER)), "2 Sync"),

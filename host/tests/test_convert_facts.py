@@ -118,12 +118,7 @@ PAST = "is past the times of a capture"
 BEFORE = "is before the times of a capture"
 RANGES = {
     "first": (("-3589.750000000", 0), [35_897_500_000], [0], ""),
-    "before": (
-        ("-3589.750000000", 0),
-        [35_897_500_001, 35_897_499_999],
-        [100],
-        f"counter 35897499999 {BEFORE}",
-    ),
+    "before": (("-3589.750000000", 0), [35_897_500_001, 35_897_499_999], [100], f"counter 35897499999 {BEFORE}"),
     "last": (("4294967295.999999900", 0), [0], [4_294_967_295_999_999_900], ""),
     "past": (("4294967295.999999900", 0), [1], [], f"counter 1 {PAST}"),
     "last_origin": (("253370764799.999999999", 0), [2**48 - 1], [], f"counter {2**48 - 1} {PAST}"),
@@ -195,10 +190,7 @@ def test_text_that_is_no_facts_is_refused_and_the_capture_stays(work: Path, feed
     facts = work / "bad.json"
     facts.write_bytes(data)
     told = by_facts(facts, feed, kept)
-    judge(
-        f"no facts: {why}",
-        told == (1, f"convert: {facts}: {NO_FACTS}: {why}\n") and kept.read_bytes() == b"kept",
-    )
+    judge(f"no facts: {why}", told == (1, f"convert: {facts}: {NO_FACTS}: {why}\n") and kept.read_bytes() == b"kept")
 
 
 def test_facts_that_cannot_be_read_are_refused(work: Path, feed: Path, kept: Path) -> None:
@@ -256,10 +248,7 @@ def test_damaged_facts_are_taken_or_refused_in_a_line(work: Path) -> None:
     for turn in range(DAMAGED):
         moved = good.replace(b"1764590400", str(draw.randrange(-(10**10), 10**10)).encode())
         refused += judge_damaged(turn, work, moved if turn % 3 == 0 else damaged(draw, good))
-    judge(
-        f"{DAMAGED} damaged facts, of which {refused} are refused",
-        DAMAGED // 4 < refused < DAMAGED * 3 // 4,
-    )
+    judge(f"{DAMAGED} damaged facts, of which {refused} are refused", DAMAGED // 4 < refused < DAMAGED * 3 // 4)
 
 
 def few_facts() -> dict:

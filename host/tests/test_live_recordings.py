@@ -43,8 +43,7 @@ def recorder_of(work: Path, audit: str = YES) -> Recorder:
 
 
 @pytest.mark.parametrize(
-    "status, audit, is_approved",
-    [(0, YES, True), (3, YES, False), (137, YES, False), (0, NO, False), (0, "", False)],
+    "status, audit, is_approved", [(0, YES, True), (3, YES, False), (137, YES, False), (0, NO, False), (0, "", False)]
 )
 def test_a_recording_may_be_removed_whose_status_is_0_and_whose_audit_says_yes(
     work: Path, status: int, audit: str, is_approved: bool

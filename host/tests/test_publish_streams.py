@@ -295,12 +295,7 @@ def test_what_nobody_knows_the_time_of_is_refused(work: Path, monkeypatch: pytes
 
 @pytest.mark.parametrize(
     "scale, ahead, said",
-    [
-        (None, None, ("UTC", None)),
-        (None, 37, ("TAI", 37)),
-        (None, 0, ("UTC", None)),
-        ("TAI", 37, ("TAI", 37)),
-    ],
+    [(None, None, ("UTC", None)), (None, 37, ("TAI", 37)), (None, 0, ("UTC", None)), ("TAI", 37, ("TAI", 37))],
 )
 def test_scales_are_those_of_the_facts_or_what_is_asked_for(
     work: Path, monkeypatch: pytest.MonkeyPatch, scale: Optional[str], ahead: Optional[int], said: tuple

@@ -31,11 +31,7 @@ LISTS: dict[str, tuple[list, list[str], dict[str, object]]] = {
         ["--utc"],
         {"scale": "UTC", "origins": [origin(0, "1764590400.250000000", **UNKNOWN)]},
     ),
-    "and TAI": (
-        UNKNOWN_SCALE,
-        ["--tai", "37"],
-        {**TAI, "origins": [origin(0, "1764590400.250000000", **UNKNOWN)]},
-    ),
+    "and TAI": (UNKNOWN_SCALE, ["--tai", "37"], {**TAI, "origins": [origin(0, "1764590400.250000000", **UNKNOWN)]}),
     "what is said is of an unknown scale alone": (
         [*TAI_37, ("1764590437.250000124", 18, None, None)],
         ["--tai", "36"],

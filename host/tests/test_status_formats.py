@@ -231,12 +231,7 @@ def test_the_error_of_a_clock_is_there_to_the_microsecond(flights: dict) -> None
     samples = {it.name: it.value for it in read_metrics(metrics.text_of(view, told))}
     found = (samples["bpfrec_clock_synchronised"], samples["bpfrec_clock_max_error_seconds"])
     judge("as a metric", found == (1, 0.000125), found)
-    wanted = {
-        "is_synchronised": True,
-        "maximum_error": 0.000125,
-        "source": "chrony (192.0.2.1)",
-        "required": 0.001,
-    }
+    wanted = {"is_synchronised": True, "maximum_error": 0.000125, "source": "chrony (192.0.2.1)", "required": 0.001}
     judge("and in the object", object_of(view, told)["clock"] == wanted, object_of(view, told)["clock"])
 
 

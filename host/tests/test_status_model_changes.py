@@ -29,10 +29,7 @@ def test_a_new_filter_is_told_at_once(work: Path) -> None:
     flight.append(program(1, 1, 7))
     flight.pass_second()
     judge("of several the last", version_of(flight) == 2)
-    judge(
-        "the history has the version of each second",
-        [it.version for it in channel_of(flight, 1).history] == [0, 2],
-    )
+    judge("the history has the version of each second", [it.version for it in channel_of(flight, 1).history] == [0, 2])
     flight.begin("next.ch11")
     flight.pass_second()
     judge("a recording that follows begins anew", version_of(flight) == 0)

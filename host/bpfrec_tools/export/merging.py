@@ -127,7 +127,8 @@ class Interface:
     def names(self) -> list[str]:
         """Its name, and longer ones for where another interface has that too."""
         longer = f"{self.name} of {self.source}"
-        return [self.name, longer, f"{longer}, channel {self.channel}", f"{longer}, channel {self.channel} of {self.file}"]
+        longest = f"{longer}, channel {self.channel}"
+        return [self.name, longer, longest, f"{longest} of {self.file}"]
 
     def description(self, texts: Texts, name: str) -> bytes:
         """The block that describes it: its name, its first program and its counts."""

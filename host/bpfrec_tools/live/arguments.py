@@ -148,7 +148,7 @@ def parser() -> Parser:
         epilog=MORE,
         allow_abbrev=False,
     )
-    made.add_argument("--force", action="store_true", help="overwrites an OUT that exists")
+    made.add_argument("--force", dest="is_forced", action="store_true", help="overwrites an OUT that exists")
     made.add_argument("--every", metavar="SECONDS", type=seconds, help="begins a new recording after this time")
     made.add_argument("--for", metavar="SECONDS", dest="seconds", type=seconds, help="ends the run after this time")
     made.add_argument("--size", metavar="BYTES", type=size, help="begins a new recording at BYTES bytes")
@@ -160,9 +160,11 @@ def parser() -> Parser:
     made.add_argument("--keep-free", metavar="BYTES", type=size, help="removes the oldest until this much is free")
     made.add_argument("--mode", metavar="MODE", type=file_mode, help="who may read OUT and its facts")
     add_outside_options(made)
-    made.add_argument("--prefilter", action="store_true", help="has the kernel run the filters too")
+    kernel = "has the kernel run the filters too"
+    made.add_argument("--prefilter", dest="is_prefiltered", action="store_true", help=kernel)
     add_options_of_the_end(made)
-    made.add_argument("--strict", action="store_true", help="exit status 5 if an interface lost frames")
+    lossless = "exit status 5 if an interface lost frames"
+    made.add_argument("--strict", dest="is_strict", action="store_true", help=lossless)
     add_capture_options(made)
     made.add_argument("operands", nargs="*", help=argparse.SUPPRESS)
     return made
@@ -171,18 +173,18 @@ def parser() -> Parser:
 def add_options_of_the_end(made: Parser) -> None:
     """What is done with each recording that has ended."""
     whole = "makes OUT.ch10, a whole Chapter 11 file, after each recording"
-    made.add_argument("--chapter11", action="store_true", help=whole)
+    made.add_argument("--chapter11", dest="makes_whole_files", action="store_true", help=whole)
     add_setup_options(made)
     key = "signs the facts of each recording by ssh-keygen, with a key without a passphrase or of an agent"
     made.add_argument("--sign", metavar="KEY", help=key)
-    made.add_argument("--no-audit", action="store_true", help="leaves the audit out")
+    made.add_argument("--no-audit", dest="is_audited", action="store_false", help="leaves the audit out")
 
 
 def add_outside_options(made: Parser) -> None:
     """The options by which others see how the run goes, steer it, or get what it records."""
     made.add_argument("--status", metavar="[ADDRESS:]PORT", help="serves a page that shows how the recording goes")
     named = "a name by which browsers ask for it; may be given again"
-    made.add_argument("--status-name", metavar="NAME", action="append", default=[], help=named)
+    made.add_argument("--status-name", metavar="NAME", dest="status_names", action="append", default=[], help=named)
     asked = "needs a synchronised clock that is off by no more than this"
     made.add_argument("--require-clock", metavar="SECONDS", dest="clock_error", type=clock_error, help=asked)
     ran = "runs a program when an alarm begins or ends"
@@ -190,7 +192,7 @@ def add_outside_options(made: Parser) -> None:
     made.add_argument("--control", metavar="PATH", help="takes lines by a Unix socket too: bpfrec tell sends them")
     sent = "sends what is recorded there by UDP; may be given again"
     form = "ADDRESS:PORT[,ttl=N][,interface=NAME][,datagram=BYTES]"
-    made.add_argument("--publish", metavar=form, type=target_of, action="append", default=[], help=sent)
+    made.add_argument("--publish", metavar=form, dest="targets", type=target_of, action="append", default=[], help=sent)
 
 
 class Given(NamedTuple):
@@ -225,33 +227,8 @@ def arguments_of(line: Given) -> Arguments:
         given = parser().parse_intermixed_args([*words_of(line.flight, line.words), *line.words])
         operands = operands_with(line.flight, operands)
     setup = setup_arguments(given)
-    if setup and not given.chapter11 and not given.publish:
+    if setup and not given.makes_whole_files and not given.targets:
         raise Refusal(2, f"bpfrec live: {setup[0].partition('=')[0]} is for --chapter11 and --publish")
-    named = operands_of(operands)
-    return Arguments(
-        settings=named.settings,
-        out=named.out,
-        routes=named.routes,
-        options=given.options,
-        every=given.every,
-        size=given.size,
-        seconds=given.seconds,
-        sync=given.sync,
-        is_prefiltered=given.prefilter,
-        is_forced=given.force,
-        is_audited=not given.no_audit,
-        is_strict=given.strict,
-        status=given.status,
-        status_names=given.status_name,
-        span=given.span,
-        keep=given.keep,
-        keep_free=given.keep_free,
-        mode=given.mode,
-        clock_error=given.clock_error,
-        on_alarm=given.on_alarm,
-        control=given.control,
-        makes_whole_files=given.chapter11,
-        setup=setup,
-        sign=given.sign,
-        targets=[it._replace(setup=tuple(setup)) for it in given.publish],
-    )
+    given.targets = [it._replace(setup=tuple(setup)) for it in given.targets]
+    asked = {name: value for name, value in vars(given).items() if name in Arguments._fields}
+    return Arguments(**operands_of(operands)._asdict(), **asked, setup=setup)

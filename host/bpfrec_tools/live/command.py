@@ -8,18 +8,7 @@ from typing import Optional
 
 from bpfrec.formats.names import Names, whole_path
 from bpfrec_tools.cli import program
-from bpfrec_tools.live.ahead import (
-    refuse_alarm_command,
-    refuse_clock,
-    refuse_control,
-    refuse_feeds_alone,
-    refuse_few_descriptors,
-    refuse_holder,
-    refuse_many_channels,
-    refuse_signing,
-    refuse_together,
-    refuse_without_id,
-)
+from bpfrec_tools.live import ahead
 from bpfrec_tools.live.arguments import Arguments, parser, read
 from bpfrec_tools.live.control.changes import may_bring_lines
 from bpfrec_tools.live.kept.names import Files, Refusal, is_special, refuse_folder, refuse_long, unreadable
@@ -46,10 +35,10 @@ def run(arguments: list[str], observer: Optional[Observer] = None) -> int:
         programs = find_programs(given)
         look_ahead(given)
         text, settings = read_settings(given.settings) if given.settings else made_settings(given.routes)
-        refuse_many_channels(settings)
-        refuse_without_id(settings)
-        refuse_feeds_alone(given)
-        refuse_few_descriptors(given, len(settings.channels))
+        ahead.refuse_many_channels(settings)
+        ahead.refuse_without_id(settings)
+        ahead.refuse_feeds_alone(given)
+        ahead.refuse_few_descriptors(given, len(settings.channels))
         judge_settings(settings, given)
         judge_spans(settings)
         judge_filters(settings, given)
@@ -124,12 +113,12 @@ def look_ahead(given: Arguments) -> None:
             raise Refusal(3, f"bpfrec live: {why}")
         if os.path.exists(given.out) and os.path.samefile(given.out, given.settings):
             raise Refusal(3, f"file {given.out}")
-    refuse_together(given)
-    refuse_holder()
-    refuse_alarm_command(given)
-    refuse_control(given)
-    refuse_clock(given)
-    refuse_signing(given)
+    ahead.refuse_together(given)
+    ahead.refuse_holder()
+    ahead.refuse_alarm_command(given)
+    ahead.refuse_control(given)
+    ahead.refuse_clock(given)
+    ahead.refuse_signing(given)
     if not given.is_rotating():
         beside = (whole_path(given.out),) if given.makes_whole_files else ()
         Files(given.mode, given.is_forced).refuse_overwriting(given.out, *beside)

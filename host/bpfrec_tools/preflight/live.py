@@ -20,14 +20,7 @@ from bpfrec.formats.names import Names
 from bpfrec.formats.settings import Settings
 from bpfrec_tools.cli import program
 from bpfrec_tools.cli.moments import moment_of
-from bpfrec_tools.live.ahead import (
-    refuse_alarm_command,
-    refuse_control,
-    refuse_few_descriptors,
-    refuse_holder,
-    refuse_signing,
-    refuse_together,
-)
+from bpfrec_tools.live import ahead
 from bpfrec_tools.live.arguments import Arguments, arguments_of, given_by
 from bpfrec_tools.live.flight import Flight, without_flight
 from bpfrec_tools.live.kept.clock_watch import by_others, by_the_kernel
@@ -102,9 +95,9 @@ def judge_live(arguments: list[str], judge: Judge, report: Report) -> None:
 def judge_refusals(given: Arguments, settings: Optional[Settings], report: Report) -> None:
     """What live would refuse, each alone, so that one fault hides no other."""
     count = max(len(given.routes), len(settings.recorded()) if settings else 0)
-    calls = (refuse_together, refuse_endpoint, refuse_alarm_command, refuse_control, refuse_signing)
-    refusals: list[Callable[[], object]] = [partial(it, given) for it in calls]
-    refusals += [refuse_holder, partial(refuse_few_descriptors, given, count)]
+    of_options = (ahead.refuse_together, ahead.refuse_alarm_command, ahead.refuse_control, ahead.refuse_signing)
+    refusals: list[Callable[[], object]] = [partial(it, given) for it in (*of_options, refuse_endpoint)]
+    refusals += [ahead.refuse_holder, partial(ahead.refuse_few_descriptors, given, count)]
     if settings:
         known = settings._replace(channels=[it for it in settings.channels if it.id() is not None])
         refusals += [partial(refuse_settings, known, given)]

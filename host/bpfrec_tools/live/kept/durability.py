@@ -52,12 +52,7 @@ class Durability(Part):
     """The keepers of a run's recordings. `err` takes a line for who watches."""
 
     def __init__(
-        self,
-        loop: Loop,
-        writer: Writer,
-        events: Events,
-        ports: KeeperPorts,
-        err: Callable[[str], None],
+        self, loop: Loop, writer: Writer, events: Events, ports: KeeperPorts, err: Callable[[str], None]
     ) -> None:
         self.loop, self.writer, self.events, self.err = loop, writer, events, err
         self.synced, self.sync_failed, self.following, self.made_of = ports

@@ -156,11 +156,7 @@ class Hashes:
         self.open.add(number)
 
     def add(
-        self,
-        number: int,
-        ended: Optional[Ended],
-        facts: Optional[Entry],
-        finished: Callable[[tuple[str, ...]], None],
+        self, number: int, ended: Optional[Ended], facts: Optional[Entry], finished: Callable[[tuple[str, ...]], None]
     ) -> None:
         """A recording has ended, and its facts were written as far as they are known."""
         self.open.discard(number)

@@ -30,11 +30,7 @@ class Marks(Part):
     """The marks of a run. `noted` is called where a recording has one more, and `err` takes a line for who watches."""
 
     def __init__(
-        self,
-        events: Events,
-        is_rotating: bool,
-        noted: Callable[[Recorder, Entry], None],
-        err: Callable[[str], None],
+        self, events: Events, is_rotating: bool, noted: Callable[[Recorder, Entry], None], err: Callable[[str], None]
     ) -> None:
         self.events, self.is_rotating, self.noted, self.err = events, is_rotating, noted, err
         # How far the host's clock was ahead of the one that nobody sets when the capture had begun.

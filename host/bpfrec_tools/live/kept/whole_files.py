@@ -49,12 +49,7 @@ class WholeFiles:
     watches."""
 
     def __init__(
-        self,
-        options: Optional[list[str]],
-        files: Files,
-        loop: Loop,
-        guard: Guard,
-        err: Callable[[str], None],
+        self, options: Optional[list[str]], files: Files, loop: Loop, guard: Guard, err: Callable[[str], None]
     ) -> None:
         self.options, self.files, self.loop, self.guard, self.err = options, files, loop, guard, err
         self.waiting: deque[Kept] = deque()

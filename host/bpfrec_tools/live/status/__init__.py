@@ -29,13 +29,4 @@ from bpfrec_tools.live.status.observer import Status
 from bpfrec_tools.live.status.server import NoServer
 from bpfrec_tools.live.status.terminal import Terminal
 
-__all__ = [
-    "BadEndpoint",
-    "Counts",
-    "Endpoint",
-    "NoServer",
-    "Setup",
-    "Status",
-    "Terminal",
-    "endpoint_in",
-]
+__all__ = ["BadEndpoint", "Counts", "Endpoint", "NoServer", "Setup", "Status", "Terminal", "endpoint_in"]

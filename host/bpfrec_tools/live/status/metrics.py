@@ -7,6 +7,7 @@ from collections.abc import Callable, Iterable, Iterator
 from typing import NamedTuple, Optional
 
 from bpfrec.formats.clock_state import ClockState
+from bpfrec_tools.live.run.ports import Counts
 from bpfrec_tools.live.status.alarms import Alarm, Name
 from bpfrec_tools.live.status.view import ChannelView, State, View
 
@@ -25,42 +26,20 @@ class Metric(NamedTuple):
     value: Callable[[ChannelView], Optional[float]]
 
 
+def counted(name: str, about: str, value: Callable[[Counts], float]) -> Metric:
+    """A metric of what the capture counts."""
+    return Metric(name, COUNTER, about, lambda channel: channel.counts and value(channel.counts))
+
+
 CHANNEL_METRICS = (
-    Metric(
-        "offered_frames_total", COUNTER, "Frames that came.", lambda channel: channel.counts and channel.counts.frames
-    ),
-    Metric(
-        "offered_bytes_total",
-        COUNTER,
-        "Bytes of frames that came.",
-        lambda channel: channel.counts and channel.counts.bytes,
-    ),
+    counted("offered_frames_total", "Frames that came.", lambda counts: counts.frames),
+    counted("offered_bytes_total", "Bytes of frames that came.", lambda counts: counts.bytes),
     Metric("kept_frames_total", COUNTER, "Frames in recordings.", lambda channel: channel.kept_frames),
     Metric("kept_bytes_total", COUNTER, "Bytes of frames in recordings.", lambda channel: channel.kept_bytes),
-    Metric(
-        "dropped_frames_total",
-        COUNTER,
-        "Frames that the kernel dropped.",
-        lambda channel: channel.counts and channel.counts.dropped,
-    ),
-    Metric(
-        "missed_frames_total",
-        COUNTER,
-        "Frames that the interface missed.",
-        lambda channel: channel.counts and channel.counts.missed,
-    ),
-    Metric(
-        "skipped_frames_total",
-        COUNTER,
-        "Frames cut short or too long.",
-        lambda channel: channel.counts and channel.counts.skipped,
-    ),
-    Metric(
-        "waited_seconds_total",
-        COUNTER,
-        "For how long the pipe was full.",
-        lambda channel: channel.counts and channel.counts.waited / 1_000,
-    ),
+    counted("dropped_frames_total", "Frames that the kernel dropped.", lambda counts: counts.dropped),
+    counted("missed_frames_total", "Frames that the interface missed.", lambda counts: counts.missed),
+    counted("skipped_frames_total", "Frames cut short or too long.", lambda counts: counts.skipped),
+    counted("waited_seconds_total", "For how long the pipe was full.", lambda counts: counts.waited / 1_000),
     Metric("away", GAUGE, "1 while its interface brings no frames, else 0.", lambda channel: int(channel.link.is_away)),
     Metric("interruptions_total", COUNTER, "How often it brought none.", lambda channel: channel.link.interruptions),
     Metric("filter_version", GAUGE, "The version of the filter, in this recording.", lambda channel: channel.version),
