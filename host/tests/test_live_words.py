@@ -29,21 +29,12 @@ KEEPS = "1,6 0 0 1,"
 ANY = cast(Recorder, None)
 
 
-@pytest.mark.parametrize(
-    "line, word",
-    [
-        (b"stop", Word.STOP),
-        (b" next \r", Word.NEXT),
-        (b"help", Word.HELP),
-        (b"stop it", None),
-        (b"STOP", None),
-        (b"", None),
-        (b"\xff", None),
-        (b"set 1 stop", None),
-    ],
-)
-def test_a_line_is_a_word_alone(line: bytes, word: Word) -> None:
-    judge(repr(line), word_of(line) is word)
+WORDS = {b"stop": Word.STOP, b" next \r": Word.NEXT, b"help": Word.HELP}
+
+
+@pytest.mark.parametrize("line", [*WORDS, b"stop it", b"STOP", b"", b"\xff", b"set 1 stop"])
+def test_a_line_is_a_word_alone(line: bytes) -> None:
+    judge(repr(line), word_of(line) is WORDS.get(line))
 
 
 def test_a_filter_is_in_words_where_it_is_no_listing_and_no_file_that_is_missing(
@@ -53,19 +44,10 @@ def test_a_filter_is_in_words_where_it_is_no_listing_and_no_file_that_is_missing
     (work / "listing").write_text(f" \n{KEEPS}")
     (work / "text.bpf").write_text("; all\nret #1\n")
     (work / "folder").mkdir()
-    for text, wanted in [
-        ("listing", False),
-        ("text.bpf", True),
-        (f"{work}/text.bpf", True),
-        ("folder", False),
-        ("missing.txt", False),
-        ("missing.bpf", False),
-        ("some/where", False),
-        ("udp port 5004", True),
-        ("net 10.0.0.0/8", True),
-        ("arp", True),
-    ]:
-        judge(text, is_in_words(text) == wanted)
+    for text in ("text.bpf", f"{work}/text.bpf", "udp port 5004", "net 10.0.0.0/8", "arp", "all"):
+        judge(text, is_in_words(text))
+    for text in ("listing", "folder", "missing.txt", "missing.bpf", "some/where"):
+        judge(text, not is_in_words(text))
     judge("a text is assembled", arguments_for("text.bpf", "bpfrec") == ["bpfrec", "asm", "./text.bpf"])
     judge("all frames need none", arguments_for("all", "bpfrec") == arguments_for("", "") == ["echo", ALL_FRAMES])
     words = arguments_for("arp", "bpfrec") or []
@@ -230,29 +212,16 @@ def test_a_run_ends_once_after_its_time_from_the_first_recording_on() -> None:
     judge("never without a time", forever.deadline() is None)
 
 
-@pytest.mark.parametrize(
-    "word, seconds",
-    [
-        ("90", 90),
-        ("10m", 600),
-        ("10min", 600),
-        ("1h30min", 5_400),
-        ("1h30m", 5_400),
-        ("1d2h3m4s", 93_784),
-        ("1h30", None),
-        ("1s1m", None),
-        ("1m1m", None),
-        ("m", None),
-        ("01m", None),
-        ("1x", None),
-    ],
-)
-def test_a_time_has_units(word: str, seconds: int | None) -> None:
+SECONDS = {"90": 90, "10m": 600, "10min": 600, "1h30min": 5_400, "1h30m": 5_400, "1d2h3m4s": 93_784}
+
+
+@pytest.mark.parametrize("word", [*SECONDS, "1h30", "1s1m", "1m1m", "m", "01m", "1x"])
+def test_a_time_has_units(word: str) -> None:
     try:
         found = read(["--for", word, "out.ch11", "rx0"]).seconds
     except Refusal:
         found = None
-    judge(word, found == seconds, found)
+    judge(word, found == SECONDS.get(word), found)
 
 
 def settings_with(work: Path, *filters: str) -> str:

@@ -173,6 +173,20 @@ FAULTS = [
 ]
 
 
+def test_options_that_do_not_go_together_are_all_named(folder: Path) -> None:
+    lines = 'out = "o.ch11"\nstatus_name = "a"\nkeep = 3'
+    wanted = ["live: --keep and --keep-free need --every or --size", "live: --status-name needs --status"]
+    for line, faults in {
+        "": wanted,
+        'evry = "5s"': wanted[1:],
+        'every = "5x"': wanted[1:],
+        "status = {}": wanted[:1],
+    }.items():
+        told = outcome(PREFLIGHT, flight(folder, f"{lines}\n{line}"), cwd=folder).stdout.splitlines()
+        found = [it for it in told if it.startswith("live: ")]
+        judge(f"but none that follows: {line}", found == faults, told)
+
+
 def test_a_fault_of_a_flight_hides_no_other_and_brings_none(folder: Path) -> None:
     (folder / "flight.toml").write_text(FAULTY)
     done = outcome(PREFLIGHT, "flight.toml", cwd=folder)

@@ -5,6 +5,7 @@ from __future__ import annotations
 import os
 import resource
 import shutil
+from typing import Iterator
 
 from bpfrec.formats.settings import Settings
 from bpfrec_tools.cli.signatures import Unsigned
@@ -133,22 +134,28 @@ def refuse_captures(given: Arguments) -> None:
 def refuse_together(given: Arguments) -> None:
     """Refuses options that don't go together."""
     refuse_captures(given)
+    for what in apart(given):
+        raise Refusal(2, f"bpfrec live: {what}")
+
+
+def apart(given: Arguments) -> Iterator[str]:
+    """What is wrong with options that don't go together."""
     is_ring = given.keep is not None or given.keep_free is not None
     if is_ring and not given.is_rotating():
-        raise Refusal(2, "bpfrec live: --keep and --keep-free need --every or --size")
+        yield "--keep and --keep-free need --every or --size"
     if is_ring and not given.is_audited:
-        raise Refusal(2, "bpfrec live: --keep and --keep-free remove what was audited, and --no-audit audits nothing")
+        yield "--keep and --keep-free remove what was audited, and --no-audit audits nothing"
     if given.makes_whole_files and not given.is_audited:
-        raise Refusal(2, "bpfrec live: --chapter11 is made of what was audited, and --no-audit audits nothing")
+        yield "--chapter11 is made of what was audited, and --no-audit audits nothing"
     if given.makes_whole_files and not given.routes:
-        raise Refusal(2, "bpfrec live: --chapter11 needs an interface")
+        yield "--chapter11 needs an interface"
     if given.targets and not given.routes:
-        raise Refusal(2, "bpfrec live: --publish needs an interface")
+        yield "--publish needs an interface"
     if given.targets and is_special(given.out):
-        raise Refusal(2, "bpfrec live: --publish needs an OUT that is a file")
+        yield "--publish needs an OUT that is a file"
     if given.status_names and given.status is None:
-        raise Refusal(2, "bpfrec live: --status-name needs --status")
+        yield "--status-name needs --status"
     if given.sign is not None and not given.routes:
-        raise Refusal(2, "bpfrec live: --sign needs an interface")
+        yield "--sign needs an interface"
     if given.span is not None and not given.routes:
-        raise Refusal(2, "bpfrec live: --span needs an interface")
+        yield "--span needs an interface"

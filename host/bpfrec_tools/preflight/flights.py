@@ -16,8 +16,9 @@ from bpfrec_tools.preflight.report import Report, place
 UNKNOWN = "?"
 
 
-def judge_flight(line: Given, flight: Flight, report: Report) -> None:
-    """Names the faults of a flight. It goes on as one without them, from which nothing follows."""
+def judge_flight(line: Given, flight: Flight, report: Report) -> set[str]:
+    """Names the faults of a flight, which goes on as one without them: the keys that have some, or that are meant in the
+    places of those."""
     faults = take_out(flight, list(faults_of(flight, parser(), line.words)), report)
     faults += take_out(flight, list(refused_values(flight, line.words)), report)
     known = [*flight.routes().values(), UNKNOWN]
@@ -27,11 +28,13 @@ def judge_flight(line: Given, flight: Flight, report: Report) -> None:
         # What is wrong with an ID is a fault of the settings.
         if channel.id() is None:
             channel.table.pop("interface", None)
+    keys = {key for it in faults for key in (it.key, it.what.rpartition("did you mean ")[2].rstrip("?"))}
     behind = line.operands[1:]
     if flight.out() is None and (not behind or is_route(behind[0])):
-        if not any(it.key in (RUN, OUT) or it.what.endswith(f"did you mean {OUT}?") for it in faults):
+        if not keys & {RUN, OUT}:
             report.fault("live", refusal_of(partial(operands_of, line.operands)))
         flight.settings.document.setdefault(RUN, {})[OUT] = UNKNOWN
+    return keys
 
 
 def take_out(flight: Flight, faults: list[Fault], report: Report) -> list[Fault]:

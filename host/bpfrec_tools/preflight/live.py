@@ -22,7 +22,7 @@ from bpfrec_tools.cli import program
 from bpfrec_tools.cli.moments import moment_of
 from bpfrec_tools.live import ahead
 from bpfrec_tools.live.arguments import Arguments, arguments_of, given_by
-from bpfrec_tools.live.flight import Flight, without_flight
+from bpfrec_tools.live.flight import Flight, option_of, without_flight
 from bpfrec_tools.live.kept.clock_watch import by_others, by_the_kernel
 from bpfrec_tools.live.kept.names import Files, Refusal, is_special, refuse_long
 from bpfrec_tools.live.parts.adapters import asked
@@ -61,8 +61,7 @@ def judge_live(arguments: list[str], judge: Judge, report: Report) -> None:
     filter is in words."""
     try:
         line = given_by(arguments)
-        if line.flight:
-            judge_flight(line, line.flight, report)
+        faulty = judge_flight(line, line.flight, report) if line.flight else set()
         given = arguments_of(line)
     except Refusal as refusal:
         report.fault("live", refusal.what())
@@ -72,6 +71,10 @@ def judge_live(arguments: list[str], judge: Judge, report: Report) -> None:
         with_pipes(without_flight(settings), given)
     is_right = not report.faults
     judge_refusals(given, settings, report)
+    for what in ahead.apart(given):
+        # What an option lacks isn't missing where that has a fault of its own.
+        if not any(option_of(key) in what.split() for key in faulty):
+            report.fault("live", what)
     if line.flight and is_right:
         tell_flight(given, line.flight, report)
     if settings:
@@ -95,7 +98,7 @@ def judge_live(arguments: list[str], judge: Judge, report: Report) -> None:
 def judge_refusals(given: Arguments, settings: Optional[Settings], report: Report) -> None:
     """What live would refuse, each alone, so that one fault hides no other."""
     count = max(len(given.routes), len(settings.recorded()) if settings else 0)
-    of_options = (ahead.refuse_together, ahead.refuse_alarm_command, ahead.refuse_control, ahead.refuse_signing)
+    of_options = (ahead.refuse_captures, ahead.refuse_alarm_command, ahead.refuse_control, ahead.refuse_signing)
     refusals: list[Callable[[], object]] = [partial(it, given) for it in (*of_options, refuse_endpoint)]
     refusals += [ahead.refuse_holder, partial(ahead.refuse_few_descriptors, given, count)]
     if settings:
