@@ -150,14 +150,8 @@ def test_why_a_line_is_refused(folder: Folder, line: str, why: str | None) -> No
 
 
 def test_an_empty_filter_in_quotes_is_that_of_all_frames(folder: Folder) -> None:
-    asked: list[str] = []
-
-    def make_filter(text: str, listing: Path) -> MadeFilter:
-        asked.append(text)
-        return MadeFilter(listing)
-
-    held = Changes(folder, True, make_filter).held(b'set 1 ""')
-    judge("tcpdump makes it of nothing", asked == [""] and held.change.name == ALL, asked)
+    held = Changes(folder, True, lambda _, listing: MadeFilter(listing)).held(b'set 1 ""')
+    judge("it is made of no words", held.made and (held.change.words, held.change.name) == ("", ALL), held.change)
 
 
 def test_facts_have_the_words_of_each_filter_that_a_recording_had(

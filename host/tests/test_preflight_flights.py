@@ -7,7 +7,6 @@ from bpfrec.formats.settings import settings_of
 from bpfrec_tools.live.ahead import refuse_without_id
 from bpfrec_tools.live.arguments import arguments_of, given_by
 from bpfrec_tools.live.kept.names import Refusal
-from bpfrec_tools.preflight.command import judge_settings
 from bpfrec_tools.preflight.flights import judge_flight
 from bpfrec_tools.preflight.live import judge_live
 from bpfrec_tools.preflight.report import Report
@@ -29,7 +28,7 @@ def test_what_only_follows_from_an_id_that_is_missing_is_no_fault(
     monkeypatch.chdir(work)
     Path("flight.toml").write_text(f"{RUN}{CHANNEL}{line}")
     report = Report()
-    judge_live(["flight.toml"], judge_settings, report)
+    judge_live(["flight.toml"], report)
     lines = capsys.readouterr().out.splitlines()
     wanted = [f"flight.toml:{number}: {what}" for number, what in FAULTS[line]]
     judge("one fault", [it for it in lines if ": note: " not in it] == wanted and report.faults == 1, lines)

@@ -19,10 +19,9 @@ from bpfrec_tools.cli.arguments import name_of
 from bpfrec_tools.cli.streams import (
     STREAM,
     Refused,
-    Taken,
     Unreadable,
     facts_at,
-    input_at,
+    refuse_inputs,
     refuse_overwriting,
     refuse_twice,
 )
@@ -66,14 +65,6 @@ def known_at(path: str) -> facts.Facts:
     return known
 
 
-def judge_outputs(out: Optional[str], inputs: list[str]) -> None:
-    """Refuses an OUT or a standard output that is an input."""
-    for path in (it for it in (out, STREAM) if it is not None):
-        taken = input_at(path, inputs)
-        if taken:
-            raise Taken(f"{path}: it is {'standard input' if taken == STREAM else taken} itself")
-
-
 def judge_overwriting(out: str, is_forced: bool) -> None:
     """Refuses an OUT that exists, unless it may be overwritten. An empty one loses nothing: who needs its mode makes it
     ahead."""
@@ -90,7 +81,7 @@ def setup_of(given: argparse.Namespace) -> str:
     """SETUP of one recording."""
     recording = given.recordings[0]
     path = facts_of(given)
-    judge_outputs(given.out, [recording, *([path] if path else [])])
+    refuse_inputs([recording, *([path] if path else [])], given.out, STREAM)
     known = known_at(path) if path else None
     networks = networks_of(recording).of_all()
     try:
@@ -103,7 +94,7 @@ def recorded_of(given: argparse.Namespace) -> list[Recorded]:
     """Several recordings, each of which is given once."""
     if given.facts is not None or given.origin is not None:
         raise Unusable("--facts and --origin are for one recording: several have their facts beside them")
-    judge_outputs(given.out, [*given.recordings, *map(facts_path, given.recordings)])
+    refuse_inputs([*given.recordings, *map(facts_path, given.recordings)], given.out, STREAM)
     refuse_twice(given.recordings)
     recordings = [Recorded(it, known_at(facts_path(it)), networks_of(it)) for it in given.recordings]
     judge_twice(recordings)

@@ -13,7 +13,6 @@ from bpfrec_tools.chapter11.options import cleaned
 from bpfrec_tools.check.order import Place, place_of
 from bpfrec_tools.cli.streams import Refused
 
-
 # A run with its name, since recorders of one origin may have one host's name.
 NamedRun = tuple[Run, str]
 
@@ -27,11 +26,11 @@ class Recorded(NamedTuple):
 
     def name(self) -> str:
         """What it was called when it was recorded."""
-        return name_at(self.path, self.facts)
+        return self.facts.recording or os.path.basename(self.path)
 
     def run(self) -> NamedRun:
         """The run that it is of."""
-        return named_run(self.path, self.facts)
+        return run_of(self.facts), self.place().run
 
     def place(self) -> Place:
         """Its number in the names of its run."""
@@ -42,14 +41,9 @@ class Recorded(NamedTuple):
         return before.facts.following == self.name() or self.facts.before == before.name()
 
 
-def name_at(path: str, facts: Facts) -> str:
-    """What a recording was called when it was recorded."""
-    return facts.recording or os.path.basename(path)
-
-
 def named_run(path: str, facts: Facts) -> NamedRun:
     """The run of a recording."""
-    return run_of(facts), place_of(name_at(path, facts)).run
+    return Recorded(path, facts, Networks()).run()
 
 
 class Missing(NamedTuple):

@@ -16,7 +16,7 @@ from bpfrec_tools.check.verifier import verifier_of
 from bpfrec_tools.cli import printing
 from bpfrec_tools.cli.arguments import Parser, name_of
 from bpfrec_tools.cli.program import audit_of
-from bpfrec_tools.cli.streams import STREAM, Taken, identity, input_at, refuse_twice
+from bpfrec_tools.cli.streams import STREAM, identity, refuse_inputs, refuse_twice
 from second.sums import check_sums
 
 ABOUT = """\
@@ -119,13 +119,6 @@ def judge_of(given: argparse.Namespace) -> Optional[Judge]:
     return Judge(None if given.signers is None else verifier_of(given.signers, given.identity), say)
 
 
-def refuse_outputs(paths: list[str]) -> None:
-    """Refuses a FILE that is standard output, into which lines would be written."""
-    taken = input_at(STREAM, paths)
-    if taken:
-        raise Taken(f"{STREAM}: it is {taken} itself")
-
-
 def arguments_of(arguments: list[str]) -> argparse.Namespace:
     """The arguments, where they go together, with the recordings of runs in the places of their names."""
     made = parser()
@@ -145,7 +138,7 @@ def arguments_of(arguments: list[str]) -> argparse.Namespace:
 
 def check_all(given: argparse.Namespace) -> bool:
     """Judges all files; whether all is right."""
-    refuse_outputs(given.files)
+    refuse_inputs(given.files, STREAM)
     judge, are_right = judge_of(given), True
     for path in given.files:
         if len(given.files) > 1:

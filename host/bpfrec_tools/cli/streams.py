@@ -7,7 +7,8 @@ import os
 import shutil
 import stat
 import tempfile
-from typing import BinaryIO, Iterable, Optional, cast
+from contextlib import contextmanager
+from typing import BinaryIO, Iterable, Iterator, Optional, cast
 
 from bpfrec.formats import facts
 from bpfrec.formats.facts import Facts
@@ -52,6 +53,21 @@ def force_folder_of(path: str) -> None:
     force_folder(os.path.dirname(os.path.realpath(path)))
 
 
+@contextmanager
+def created(path: str, buffered: int = -1) -> Iterator[BinaryIO]:
+    """A file that is emptied, and whose folder is forced where it is new, or standard output; a fault that has no other
+    name has that of the file."""
+    is_new = path != STREAM and not os.path.exists(path)
+    try:
+        with open(1 if path == STREAM else path, "wb", buffered, closefd=path != STREAM) as out:
+            if is_new:
+                force_folder_of(path)
+            yield out
+    except OSError as error:
+        error.filename = error.filename or path
+        raise
+
+
 class Unreadable(Refused):
     """Facts that can't be read."""
 
@@ -82,6 +98,15 @@ def input_at(out: str, inputs: Iterable[str]) -> Optional[str]:
     """The input that an output is, also by another name; `-` is standard output there and standard input here."""
     taken = identity(out, 1)
     return next((it for it in inputs if taken and identity(it, 0) == taken), None)
+
+
+def refuse_inputs(inputs: Iterable[str], *outs: Optional[str]) -> None:
+    """Refuses an output that is an input, into which it would be written."""
+    names = list(inputs)
+    for out in filter(None, outs):
+        taken = input_at(out, names)
+        if taken:
+            raise Taken(f"{out}: it is {'standard input' if taken == STREAM else taken} itself")
 
 
 def refuse_overwriting(out: str, is_forced: bool) -> None:

@@ -3,7 +3,6 @@
 from __future__ import annotations
 
 import argparse
-import errno
 import os
 import sys
 from typing import BinaryIO, Iterable, Optional, Union
@@ -21,13 +20,12 @@ from bpfrec_tools.cli.progress import Progress
 from bpfrec_tools.cli.streams import (
     STREAM,
     Refused,
-    Taken,
+    created,
     facts_at,
     force,
-    force_folder_of,
     identity,
-    input_at,
     readable,
+    refuse_inputs,
     refuse_overwriting,
     refuse_twice,
 )
@@ -116,25 +114,8 @@ def judge_output(path: str, inputs: Iterable[str], is_forced: bool) -> None:
     """Refuses an output that is one of the inputs, also standard output, one that is there, and a terminal."""
     if path == STREAM and sys.stdout.isatty():
         raise Refused("standard output is a terminal, which shows no capture")
-    names = list(inputs)
-    for out in (path, STREAM):
-        taken = input_at(out, names)
-        if taken:
-            raise Taken(f"{out}: it is {'standard input' if taken == STREAM else taken} itself")
+    refuse_inputs(inputs, path, STREAM)
     refuse_overwriting(path, is_forced)
-
-
-def created(path: str) -> BinaryIO:
-    """The file, emptied; or standard output."""
-    if path != STREAM:
-        is_new = not os.path.exists(path)
-        made = open(path, "wb", BUFFER_LEN)
-        if is_new:
-            force_folder_of(path)
-        return made
-    if sys.stdout is None:
-        raise OSError(errno.EBADF, os.strerror(errno.EBADF), STREAM)
-    return open(sys.stdout.fileno(), "wb", BUFFER_LEN, closefd=False)
 
 
 def write_blocks(out: BinaryIO, recordings: list[Sliced], interfaces: list[Interface], is_quiet: bool) -> int:
@@ -152,13 +133,9 @@ def write_blocks(out: BinaryIO, recordings: list[Sliced], interfaces: list[Inter
 
 def write(path: str, recordings: list[Sliced], interfaces: list[Interface], is_quiet: bool) -> int:
     """Writes the capture: how many frames it has."""
-    try:
-        with created(path) as out:
-            count = write_blocks(out, recordings, interfaces, is_quiet)
-            force(out)
-    except OSError as error:
-        error.filename = error.filename or path
-        raise
+    with created(path, BUFFER_LEN) as out:
+        count = write_blocks(out, recordings, interfaces, is_quiet)
+        force(out)
     return count
 
 

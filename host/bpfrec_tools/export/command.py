@@ -27,9 +27,9 @@ A capture has all time of the recordings or a slice of it, and all channels or s
 interface, with the name that the facts beside the recording have for it. A recorder is a run of a host, by the facts;
 recordings without facts are of a recorder each. Frames stand in the order in which they came, so times step back where
 a clock was set back. Frames have their frame check sequence (FCS) and their error flags. Comments have the first filter
-of each channel, or the one in force where the slice begins, with its words and the counts of the channel, and at the
-first frame after a change the filter from there on. The comment of the capture has the recordings and their marks, and
-a mark is a comment of the first frame of its run that comes then or later.
+of each channel, or the one in force where the slice begins, with its expression and the counts of the channel, and at
+the first frame after a change the filter from there on. The comment of the capture has the recordings and their marks,
+and a mark is a comment of the first frame of its run that comes then or later.
 
 A whole Chapter 11 file has a setup record (TMATS), time packets and an index, and all frames, programs and ends of the
 recordings, merged by their counters and cut into packets of 100 ms at most. The setup record has the host, the

@@ -8,12 +8,11 @@ import re
 import shutil
 import subprocess
 import tempfile
-from typing import Optional
 
 from bpfrec_tools.cli import printing
 from bpfrec_tools.cli.arguments import Parser, name_of
 from bpfrec_tools.cli.program import command_of
-from bpfrec_tools.cli.streams import STREAM, Taken, Unreadable, input_at, refuse_overwriting
+from bpfrec_tools.cli.streams import STREAM, Unreadable, refuse_inputs, refuse_overwriting
 from bpfrec_tools.export import captures as pcapng
 
 ABOUT = """\
@@ -103,9 +102,7 @@ def write(given: argparse.Namespace, folder: str) -> int:
 
 def judge(given: argparse.Namespace) -> None:
     """Refuses an OUT that may not be written."""
-    taken: Optional[str] = input_at(given.out, [given.capture])
-    if taken:
-        raise Taken(f"{given.out}: it is {taken} itself")
+    refuse_inputs([given.capture], given.out)
     refuse_overwriting(given.out, given.force)
 
 

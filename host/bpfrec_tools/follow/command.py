@@ -10,7 +10,7 @@ from typing import Optional
 
 from bpfrec_tools.cli import printing
 from bpfrec_tools.cli.arguments import Parser, channel_id, name_of
-from bpfrec_tools.cli.streams import STREAM, Refused, Taken, input_at
+from bpfrec_tools.cli.streams import STREAM, Refused, created, refuse_inputs
 from bpfrec_tools.follow.growing import PAUSE, first_of, next_of
 from bpfrec_tools.follow.view import Recording, View
 
@@ -96,18 +96,13 @@ def run(arguments: list[str]) -> int:
     path = first_of(given.recording)
     if not stat.S_ISREG(os.stat(path).st_mode):
         raise Refused(f"{path}: it is no regular file, which could be followed")
-    if input_at(STREAM, [path]):
-        raise Taken(f"{STREAM}: it is {path} itself")
+    refuse_inputs([path], STREAM)
     # Its reader may leave whenever it likes, as Wireshark does.
     signal.signal(signal.SIGPIPE, signal.SIG_DFL)
-    try:
-        with open(1, "wb", BUFFER_LEN, closefd=False) as out:
-            view = View(name_of("follow"), out, given.channel or [])
-            is_damaged = follow(path, given.now, view)
-            left = view.end()
-    except OSError as error:
-        error.filename = error.filename or STREAM
-        raise
+    with created(STREAM, BUFFER_LEN) as out:
+        view = View(name_of("follow"), out, given.channel or [])
+        is_damaged = follow(path, given.now, view)
+        left = view.end()
     for mark in left:
         err(f"no frame follows {mark}")
     printing.err(f"frames {view.frames} skipped {view.skipped}")

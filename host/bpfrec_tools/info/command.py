@@ -75,9 +75,7 @@ def parser() -> Parser:
 
 def write_page(path: str, name: str, recording: Recording, audit: Audit, beside: Optional[FactsFile]) -> None:
     """Writes the page of a recording of this name; not in the place of the recording or of its facts."""
-    for what, taken in (("RECORDING", name), ("RECORDING.json", facts_path(name))):
-        if os.path.exists(path) and os.path.exists(taken) and os.path.samefile(path, taken):
-            raise OSError(0, f"it is {what} itself", path)
+    judge_output(path, name)
     try:
         with open(path, "w", encoding="utf-8") as file:
             file.writelines(page_parts(os.path.basename(name), recording, audit, beside))
@@ -86,11 +84,11 @@ def write_page(path: str, name: str, recording: Recording, audit: Audit, beside:
         raise
 
 
-def judge_output(recording: str) -> None:
-    """Refuses standard output that is the recording or its facts, which it would be written into."""
+def judge_output(path: str, recording: str) -> None:
+    """Refuses an output that is the recording or its facts, which it would be written into."""
     for what, name in (("RECORDING", recording), ("RECORDING.json", facts_path(recording))):
-        if input_at(STREAM, [name]):
-            raise OSError(0, f"it is {what} itself", STREAM)
+        if input_at(path, [name]):
+            raise OSError(0, f"it is {what} itself", path)
 
 
 def is_other(recording: Recording) -> bool:
@@ -101,7 +99,7 @@ def is_other(recording: Recording) -> bool:
 
 def part_at(path: str, is_quiet: bool) -> Optional[Part]:
     """A recording with its audit and its facts; None of what is no recording, as a line says."""
-    judge_output(path)
+    judge_output(STREAM, path)
     audit = audit_of(path, is_quiet)
     # An audit that says yes has summed all data.
     recording = read(path, not audit.is_yes(), is_quiet)

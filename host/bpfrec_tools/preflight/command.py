@@ -4,23 +4,16 @@ from __future__ import annotations
 
 import argparse
 import signal
-from typing import Container
 
 from bpfrec.formats.limits import MAX_NUMBER
-from bpfrec.formats.settings import Channel, NoReader, Settings, reader
+from bpfrec.formats.settings import NoReader, reader
 from bpfrec_tools.cli import printing, program
 from bpfrec_tools.cli.arguments import Parser, name_of
 from bpfrec_tools.live.flight import flight_at
-from bpfrec_tools.preflight.inputs import (
-    judge_capture,
-    judge_channel_feed,
-    judge_feed,
-    judge_filter,
-    judge_shared_feeds,
-)
-from bpfrec_tools.preflight.keys import judge_channel_keys, judge_ids, judge_top, read_settings
+from bpfrec_tools.preflight.inputs import judge_capture, judge_feed, judge_settings
+from bpfrec_tools.preflight.keys import read_settings
 from bpfrec_tools.preflight.live import judge_live
-from bpfrec_tools.preflight.output import judge_memory, judge_out
+from bpfrec_tools.preflight.output import judge_out
 from bpfrec_tools.preflight.report import NotJudged, Report
 
 ABOUT = """\
@@ -76,10 +69,10 @@ def parser() -> Parser:
 def judge(given: argparse.Namespace, report: Report) -> None:
     """Judges all that is named."""
     if given.live is not None:
-        judge_live(given.live, judge_settings, report)
+        judge_live(given.live, report)
         return
     if flight_at(given.settings):
-        judge_live([given.settings], judge_settings, report)
+        judge_live([given.settings], report)
         return
     settings = read_settings(given.settings, report)
     valid = [] if settings is None else judge_settings(settings, report)
@@ -88,26 +81,6 @@ def judge(given: argparse.Namespace, report: Report) -> None:
     if given.capture is not None and judge_feed(given.capture, MAX_NUMBER, given.capture, report) and settings:
         for channel in valid:
             judge_capture(settings, channel, given.capture, report)
-
-
-def judge_settings(
-    settings: Settings, report: Report, piped: Container[object] = (), worded: Container[object] = ()
-) -> list[Channel]:
-    """Judges settings with their filters and feeds, but for the channels whose feed is a pipe of live's, or whose filter
-    is in words that it takes: the channels that have a valid filter."""
-    judge_top(settings, report)
-    for channel in settings.channels:
-        judge_channel_keys(settings, channel, report)
-    judge_ids(settings, report)
-    valid = []
-    for channel in settings.recorded():
-        if channel.id() not in worded and judge_filter(settings, channel, report):
-            valid.append(channel)
-        if channel.id() not in piped:
-            judge_channel_feed(settings, channel, report)
-    judge_shared_feeds(settings, report)
-    judge_memory(settings, report)
-    return valid
 
 
 def run(arguments: list[str]) -> int:

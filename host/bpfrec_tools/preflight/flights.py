@@ -19,8 +19,12 @@ UNKNOWN = "?"
 def judge_flight(line: Given, flight: Flight, report: Report) -> set[str]:
     """Names the faults of a flight, which goes on as one without them: the keys that have some, or that are meant in the
     places of those."""
-    faults = take_out(flight, list(faults_of(flight, parser(), line.words)), report)
-    faults += take_out(flight, list(refused_values(flight, line.words)), report)
+    faults: list[Fault] = []
+    for found in (faults_of(flight, parser(), line.words), refused_values(flight, line.words)):
+        for fault in list(found):
+            report.fault(place(flight.settings.file, fault.line), fault.what)
+            fault.table.pop(fault.key, None)
+            faults.append(fault)
     known = [*flight.routes().values(), UNKNOWN]
     for fault in (it for it in faults if it.key == "interface"):
         fault.table[fault.key] = known[0]
@@ -35,14 +39,6 @@ def judge_flight(line: Given, flight: Flight, report: Report) -> set[str]:
             report.fault("live", refusal_of(partial(operands_of, line.operands)))
         flight.settings.document.setdefault(RUN, {})[OUT] = UNKNOWN
     return keys
-
-
-def take_out(flight: Flight, faults: list[Fault], report: Report) -> list[Fault]:
-    """Names faults, and takes the keys that have them out of a flight."""
-    for fault in faults:
-        report.fault(place(flight.settings.file, fault.line), fault.what)
-        fault.table.pop(fault.key, None)
-    return faults
 
 
 def refused_values(flight: Flight, given: list[str]) -> Iterator[Fault]:

@@ -1,4 +1,4 @@
-"""The filters and the feeds of a recording."""
+"""The settings of a recording, with its filters and feeds."""
 
 from __future__ import annotations
 
@@ -7,7 +7,7 @@ import re
 import stat
 import tempfile
 from pathlib import Path
-from typing import Optional
+from typing import Container, Optional
 
 from bpfrec.formats import feed
 from bpfrec.formats.answers import is_no_listing
@@ -17,8 +17,29 @@ from bpfrec.formats.settings import Channel, Settings, number_fault
 from bpfrec.formats.settings_text import quoted
 from bpfrec_tools.cli import program
 from bpfrec_tools.preflight.files import Unread, file_id, kind_of, read_text
-from bpfrec_tools.preflight.keys import place_in
+from bpfrec_tools.preflight.keys import judge_channel_keys, judge_ids, judge_top, place_in
+from bpfrec_tools.preflight.output import judge_memory
 from bpfrec_tools.preflight.report import Report
+
+
+def judge_settings(
+    settings: Settings, report: Report, piped: Container[object] = (), worded: Container[object] = ()
+) -> list[Channel]:
+    """Judges settings with their filters and feeds, but for the channels whose feed is a pipe of live's, or whose filter
+    is in words that it takes: the channels that have a valid filter."""
+    judge_top(settings, report)
+    for channel in settings.channels:
+        judge_channel_keys(settings, channel, report)
+    judge_ids(settings, report)
+    valid = []
+    for channel in settings.recorded():
+        if channel.id() not in worded and judge_filter(settings, channel, report):
+            valid.append(channel)
+        if channel.id() not in piped:
+            judge_channel_feed(settings, channel, report)
+    judge_shared_feeds(settings, report)
+    judge_memory(settings, report)
+    return valid
 
 
 def judge_filter(settings: Settings, channel: Channel, report: Report) -> bool:

@@ -12,7 +12,7 @@ import socket
 import struct
 import time
 from functools import partial
-from typing import Callable, Container, Optional
+from typing import Callable, Optional
 
 from bpfrec.formats.facts import seconds_of
 from bpfrec.formats.limits import BUFFER_FOLD, BUFFERS_IN_MEMORY, MAX_COUNTER, NANOSECONDS_A_TICK, USUAL_BUFFER
@@ -32,6 +32,7 @@ from bpfrec_tools.live.status import BadEndpoint, NoServer, endpoint_in
 from bpfrec_tools.live.status.server import Server
 from bpfrec_tools.live.targets import Target
 from bpfrec_tools.preflight.flights import UNKNOWN, interfaces_of, judge_flight, refusal_of, tell_flight
+from bpfrec_tools.preflight.inputs import judge_settings
 from bpfrec_tools.preflight.keys import read_settings
 from bpfrec_tools.preflight.output import available_memory, judge_out
 from bpfrec_tools.preflight.report import Report
@@ -53,12 +54,8 @@ OFFLOADS = {"gro": (0x2B, 1), "gso": (0x23, 1), "tso": (0x1E, 1), "lro": (0x25, 
 VALUE = struct.Struct("II")
 
 
-Judge = Callable[[Settings, Report, Container[object], Container[object]], object]
-
-
-def judge_live(arguments: list[str], judge: Judge, report: Report) -> None:
-    """Judges the arguments of a run of live. `judge` takes settings, the channels that have interfaces, and those whose
-    filter is in words."""
+def judge_live(arguments: list[str], report: Report) -> None:
+    """Judges the arguments of a run of live."""
     try:
         line = given_by(arguments)
         faulty = judge_flight(line, line.flight, report) if line.flight else set()
@@ -80,7 +77,9 @@ def judge_live(arguments: list[str], judge: Judge, report: Report) -> None:
     if settings:
         worded = words_in(settings, {it.channel for it in given.routes if gives_filter(it, given)})
         # Of a channel without an ID nobody knows whether it has an interface.
-        judge(settings, report, {None, *(it.channel for it in given.routes)}, {None, *(it for it, _ in worded)})
+        judge_settings(
+            settings, report, {None, *(it.channel for it in given.routes)}, {None, *(it for it, _ in worded)}
+        )
         for _, (place, text) in worded:
             judge_words(given.settings or "", text, partial(listing_in_words, place, text), report)
     for route in given.routes:

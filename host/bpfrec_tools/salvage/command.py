@@ -2,7 +2,6 @@
 
 from __future__ import annotations
 
-import os
 from itertools import chain
 from typing import BinaryIO, Callable, Iterable, Iterator, NoReturn, Optional, Union
 
@@ -14,7 +13,7 @@ from bpfrec_tools.cli import printing
 from bpfrec_tools.cli.arguments import Parser, name_of
 from bpfrec_tools.cli.program import audit_of
 from bpfrec_tools.cli.progress import Progress, size_of
-from bpfrec_tools.cli.streams import STREAM, Refused, force, force_folder_of, input_at, refuse_overwriting
+from bpfrec_tools.cli.streams import STREAM, Refused, created, force, input_at, refuse_overwriting
 
 ABOUT = """\
 What is left of a recording that was cut or damaged: all packets that are whole, as they are.
@@ -168,17 +167,6 @@ def run(arguments: list[str]) -> int:
 
 
 def salvage_into(path: str, pieces: Iterable[Piece]) -> bool:
-    """Copies what is whole into a file, whose fault has its name where it has no other; or to standard output, where
-    lines are those of standard error."""
-    if path == STREAM:
-        with open(1, "wb", closefd=False) as out:
-            return copy(pieces, out, printing.err)
-    is_new = not os.path.exists(path)
-    try:
-        with open(path, "wb") as out:
-            if is_new:
-                force_folder_of(path)
-            return copy(pieces, out)
-    except OSError as error:
-        error.filename = error.filename or path
-        raise
+    """Copies what is whole into a file; or to standard output, where lines are those of standard error."""
+    with created(path) as out:
+        return copy(pieces, out, printing.err) if path == STREAM else copy(pieces, out)

@@ -82,13 +82,9 @@ def of_run(view: View) -> Iterator[str]:
 
 def of_ground(view: View) -> Iterator[str]:
     """The metrics of the ground stations."""
+    sent = [it.datagrams for it in view.ground]
     told = (
-        (
-            "datagrams_total",
-            COUNTER,
-            "Datagrams that were sent to a ground station.",
-            [it.datagrams for it in view.ground],
-        ),
+        ("datagrams_total", COUNTER, "Datagrams that were sent to a ground station.", sent),
         ("lost_datagrams_total", COUNTER, "Those of them that were lost here.", [it.lost for it in view.ground]),
         ("late_packets_total", COUNTER, "Packets that were sent late.", [it.late for it in view.ground]),
         ("is_sent_to", GAUGE, "1 while its publisher runs, else 0.", [int(it.is_sent_to) for it in view.ground]),
