@@ -140,6 +140,8 @@ def refuse_together(given: Arguments) -> None:
 
 def apart(given: Arguments) -> Iterator[str]:
     """What is wrong with options that don't go together."""
+    if given.setup and not given.makes_whole_files and not given.targets:
+        yield f"{given.setup[0].partition('=')[0]} is for --chapter11 and --publish"
     is_ring = given.keep is not None or given.keep_free is not None
     if is_ring and not given.is_rotating():
         yield "--keep and --keep-free need --every or --size"

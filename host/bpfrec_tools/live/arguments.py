@@ -227,8 +227,6 @@ def arguments_of(line: Given) -> Arguments:
         given = parser().parse_intermixed_args([*words_of(line.flight, line.words), *line.words])
         operands = operands_with(line.flight, operands)
     setup = setup_arguments(given)
-    if setup and not given.makes_whole_files and not given.targets:
-        raise Refusal(2, f"bpfrec live: {setup[0].partition('=')[0]} is for --chapter11 and --publish")
     given.targets = [it._replace(setup=tuple(setup)) for it in given.targets]
     asked = {name: value for name, value in vars(given).items() if name in Arguments._fields}
     return Arguments(**operands_of(operands)._asdict(), **asked, setup=setup)
