@@ -50,7 +50,6 @@ def test_an_interface_that_was_away_before_the_recording_began_is_so_in_it(work:
 def test_what_was_kept_has_come(work: Path) -> None:
     """The capture's counts of a second may be older than what the recording has."""
     channel = Channel(Setup(1, "eth0"), 0.0)
-    judge("where nobody counts", channel.view(0.5).counts is None)
     channel.count(Counts(10, 640, 1, 0, 0, 5), 1.0)
     channel.keep(12, 768, 1.5)
     found = channel.view(1.6)

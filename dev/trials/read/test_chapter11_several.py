@@ -4,6 +4,7 @@ from __future__ import annotations
 
 import json
 import os
+import pty
 import random
 import subprocess
 from pathlib import Path
@@ -75,6 +76,22 @@ def test_two_recorders_become_one_file(work: Path, two: list[Path]) -> None:
         judge(line.decode(), line in setup)
     left = sorted(it for it in os.listdir(work) if not it.endswith((".json", ".feed", "private")))
     judge("nothing else is left", left == ["all.ch10", "one.ch11", "two.ch11"], left)
+
+
+@pytest.mark.parametrize("turned", [False, True])
+def test_a_terminal_has_the_order_by_which_a_refusal_counts(work: Path, turned: bool) -> None:
+    """Where that isn't the one in which the recordings are given."""
+    names = run_at(work, 2)
+    own, other = pty.openpty()
+    given = names[::-1] if turned else names
+    subprocess.run([EXPORT, *given, "all.ch10"], cwd=work, stdout=subprocess.DEVNULL, stderr=other, check=True)
+    os.close(other)
+    try:
+        told = os.read(own, 4_096).decode()
+    except OSError:
+        told = ""
+    line = f"bpfrec export: the recordings in their order, from 0: {' '.join(names)}\r\n"
+    judge("a line", told == (line if turned else ""), told)
 
 
 def test_channels_that_do_not_meet_keep_their_ids(work: Path) -> None:

@@ -155,7 +155,10 @@ def make_of_several(given: argparse.Namespace) -> None:
     lines, setup = renumbered(runs), setup_of_several(runs, asked)
     if is_made_of("".join([*(f"# {it}" for it in lines), setup]), given):
         printing.out("".join(lines))
-        become([it.path for run in runs for it in run], setup, given.out)
+        paths = [it.path for run in runs for it in run]
+        if paths != given.recordings and os.isatty(2):
+            printing.err(f"{name_of('export')}: the recordings in their order, from 0: {' '.join(paths)}")
+        become(paths, setup, given.out)
 
 
 def make(given: argparse.Namespace) -> int:

@@ -12,7 +12,7 @@ import socket
 import struct
 import time
 from functools import partial
-from typing import Callable, Optional
+from typing import Callable, Container, Optional
 
 from bpfrec.formats.facts import seconds_of
 from bpfrec.formats.limits import BUFFER_FOLD, BUFFERS_IN_MEMORY, MAX_COUNTER, NANOSECONDS_A_TICK, USUAL_BUFFER
@@ -64,8 +64,10 @@ def judge_live(arguments: list[str], report: Report) -> None:
         report.fault("live", refusal.what())
         return
     settings = read_settings(given.settings, report) if given.settings is not None else None
+    # Of a channel without an ID nobody knows whether it has an interface.
+    piped = {None, *(it.channel for it in given.routes)}
     if settings:
-        with_pipes(without_flight(settings), given)
+        with_pipes(without_flight(settings), piped)
     is_right = not report.faults
     judge_refusals(given, settings, report)
     for what in ahead.apart(given):
@@ -76,10 +78,7 @@ def judge_live(arguments: list[str], report: Report) -> None:
         tell_flight(given, line.flight, report)
     if settings:
         worded = words_in(settings, {it.channel for it in given.routes if gives_filter(it, given)})
-        # Of a channel without an ID nobody knows whether it has an interface.
-        judge_settings(
-            settings, report, {None, *(it.channel for it in given.routes)}, {None, *(it for it, _ in worded)}
-        )
+        judge_settings(settings, report, piped, {None, *(it for it, _ in worded)})
         for _, (place, text) in worded:
             judge_words(given.settings or "", text, partial(listing_in_words, place, text), report)
     for route in given.routes:
@@ -117,10 +116,9 @@ def refuse_endpoint(given: Arguments) -> None:
         raise Refusal(why.status, f"bpfrec live: {why}") from None
 
 
-def with_pipes(settings: Settings, given: Arguments) -> None:
+def with_pipes(settings: Settings, piped: Container[object]) -> None:
     """Gives the channels that have interfaces a feed, as live does, and those that may have one, so that none is
     missing."""
-    piped = {None, *(it.channel for it in given.routes)}
     for channel in settings.channels:
         if channel.id() in piped:
             channel.table["feed"] = f"{NOWHERE}/{channel.id()}"
