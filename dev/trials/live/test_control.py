@@ -9,7 +9,6 @@ import socket
 import stat
 import subprocess
 import threading
-import time
 from pathlib import Path
 from typing import Any
 
@@ -17,7 +16,7 @@ import pytest
 from frames import numbers_in, records
 from namespace import send_numbered
 from recordings import YES, begin, extracted, facts_of, write_settings
-from support import LIVE, PREFLIGHT, TOOLS, Running, judge, judge_quietly, outcome, present
+from support import LIVE, PREFLIGHT, SECONDS, TOOLS, Running, judge, judge_quietly, outcome, present
 
 WANTED = {"bin/bpfrec": "make build", "bin/capture": "make build", "ip": "iproute2", "tcpdump": "tcpdump"}
 CONTROL = TOOLS / "tell"
@@ -140,33 +139,48 @@ def processes_that(word: str) -> int:
     return count
 
 
-def read_all(client: socket.socket) -> None:
-    with contextlib.suppress(OSError):
-        while client.recv(1 << 16):
-            pass
+class Client:
+    """Sends many lines by the socket and reads their answers, so that it isn't let go."""
+
+    def __init__(self, path: Path, lines: list[bytes]) -> None:
+        self.connection = socket.socket(socket.AF_UNIX)
+        self.connection.connect(str(path))
+        self.answered = 0
+        threading.Thread(target=self.read, daemon=True).start()
+        self.connection.sendall(b"".join(it + b"\n" for it in lines))
+
+    def read(self) -> None:
+        with contextlib.suppress(OSError):
+            while data := self.connection.recv(1 << 16):
+                self.answered += data.count(b"\n\n")
+
+
+def answer_by(path: Path, line: bytes) -> bytes:
+    """The answer to one line by a connection of its own."""
+    with socket.socket(socket.AF_UNIX) as client:
+        client.connect(str(path))
+        client.settimeout(SECONDS)
+        client.sendall(line + b"\n")
+        client.shutdown(socket.SHUT_WR)
+        return b"".join(iter(lambda: client.recv(1 << 16), b""))
 
 
 def test_a_client_that_sends_many_lines_holds_nobody_up(work: Path, run: Running) -> None:
-    """Another one is answered at once, few programs run at once, and a signal ends the run."""
-    with socket.socket(socket.AF_UNIX) as many, socket.socket(socket.AF_UNIX) as sets:
-        for each, lines in ((many, b"status\n" * 9_000), (sets, b"set 1 udp port 61234\n" * 600)):
-            each.connect(str(work / "control"))
-            each.sendall(lines)
-            # It reads its answers, so it isn't let go.
-            threading.Thread(target=read_all, args=(each,), daemon=True).start()
-        most = 0
-        for number in range(5):
-            begun = time.monotonic()
-            judge("another one is answered", ask(work, "mark", number).returncode == 0)
-            judge(f"in {time.monotonic() - begun:.2f} s", time.monotonic() - begun < 3)
-            most = max(most, processes_that("udp port 61234"))
-        # Each has the program and what ends it in time.
-        judge(f"{most} processes make filters", most <= 2 * 4)
-        begun = time.monotonic()
-        run.process.send_signal(signal.SIGTERM)
-        status, _ = run.ended()
-        judge(f"it ended in {time.monotonic() - begun:.1f} s", status == 0 and time.monotonic() - begun < 5, run.told())
-    judge("it has the marks", len(facts_of(work / "flight.ch11")["marks"]) == 5)
+    """Another one is answered ahead of theirs, few programs run at once, and a signal ends the run ahead of them too."""
+    many = Client(work / "control", [b"status"] * 9_000)
+    sets = Client(work / "control", [b"set 1 udp port 61234"] * 600)
+    most = 0
+    for number in range(20):
+        judge_quietly("another one is answered", answer_by(work / "control", b"mark %d" % number).startswith(b"done\n"))
+        most = max(most, processes_that("udp port 61234"))
+    before = (many.answered, sets.answered)
+    judge(f"twenty of another are answered ahead of most: {before}", sum(before) < 4_800)
+    # Each has the program and what ends it in time.
+    judge(f"{most} processes make filters", most <= 2 * 4)
+    run.process.send_signal(signal.SIGTERM)
+    status, _ = run.ended()
+    judge(f"it ends ahead of {many.answered} and {sets.answered}", status == 0 and many.answered < 9_000, run.told())
+    judge("it has the marks", len(facts_of(work / "flight.ch11")["marks"]) == 20)
 
 
 def test_the_oldest_idle_client_makes_room_for_another(work: Path, run: Running) -> None:
