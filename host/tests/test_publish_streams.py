@@ -19,11 +19,11 @@ from bpfrec_tools.publish.recording import Recording
 from bpfrec_tools.publish.stream import Broken
 from bpfrec_tools.publish.streaming import Streaming
 from drawn_recording import DrawnRecording, drawn_insns
-from frames import FRAMES, body_of
+from frames import COMPUTER, FRAMES, body_of
 from ground import packets_in, write_facts
 from support import judge, judge_quietly
 from whole_file import Origin, Setup
-from whole_file_parts import ORIGIN, recorded, sample_recording
+from whole_file_parts import ORIGIN, parts_of, recorded, sample_recording
 
 # Gives back what it is given, keeps SETUP, and says what it did.
 PLAYED = """#!/bin/sh
@@ -125,7 +125,7 @@ def test_what_is_left_out_cuts_no_packet(work: Path, monkeypatch: pytest.MonkeyP
     streaming.finish_packet()
     left = streaming.recording.leave_rest()
     streaming.end()
-    sent = packets(packets_in(played.datagrams))
+    sent = [it.bytes() for it in parts_of(packets_in(played.datagrams))]
     judge("a beginning", data.startswith(b"".join(sent)) and len(sent) + left == 20 and left > 0, (len(sent), left))
     judge("of whole packets", (played.folder / "given").read_bytes() == b"".join(sent))
 
@@ -155,23 +155,13 @@ def test_an_origin_that_comes_later_begins_another_stream(work: Path, monkeypatc
     judge("two streams", len(played.setups()) == 2, played.setups())
     judge("all, once", sent.startswith(before) and sent.endswith(behind))
     repeated = sent[len(before) : -len(behind)]
-    kinds = [packet for packet in packets(before) if packet[15] == 0]
-    judge("two filters between", packets(repeated) == [kinds[1], kinds[2]], len(kinds))
+    records = [it.bytes() for it in parts_of(before) if it.kind == COMPUTER]
+    judge("two filters between", repeated == records[1] + records[2], len(records))
     one, other = played.setups()
     judge("the first says its name", one["attributes"] == ["G\\COM:flight_1.ch11"], one)
     judge("the other its place too", other["attributes"] == ["G\\COM:flight_1.ch11", f"G\\COM:from byte {at}"], other)
     judge("and all origins", other["origins"] == [noted[0], noted[1] | {"scale": "unknown"}], other)
     judge("a scale that nobody knows is UTC", other["scale"] == "UTC" and "scale" in one, other)
-
-
-def packets(data: bytes) -> list[bytes]:
-    """Packets that follow one another."""
-    found = []
-    while data:
-        length = int.from_bytes(data[4:8], "little")
-        found.append(data[:length])
-        data = data[length:]
-    return found
 
 
 def test_an_origin_that_comes_ahead_of_the_first_packet_begins_none(
@@ -231,7 +221,7 @@ def test_what_is_there_is_left_out_but_for_the_filters(work: Path, monkeypatch: 
     streaming.go_on()
     played.frames(1, 9)
     behind = played.write()
-    judge("the filter, and what comes", played.sent() == packets(before)[0] + behind)
+    judge("the filter, and what comes", played.sent() == parts_of(before)[0].bytes() + behind)
     (setup,) = played.setups()
     judge("its place is said", setup["attributes"][1:] == [f"G\\COM:from byte {len(before)}"], setup)
 

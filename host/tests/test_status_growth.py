@@ -7,7 +7,6 @@ from __future__ import annotations
 
 import os
 import random
-import struct
 import time
 from collections import Counter
 from pathlib import Path
@@ -16,7 +15,7 @@ import pytest
 from bpfrec.formats.body import Frames
 from bpfrec.formats.follow import MOST_FAULTS, MOST_PACKETS
 from bpfrec.formats.records import End
-from frames import end_packet, header_of, packet_of
+from frames import end_packet, header_of, packet_of, program_data
 from reading import SAMPLES, packets_of
 from recorder import RECORDINGS, make_feed, record, write_settings
 from scripted import Flight, Growth, Kept, Wire, alarms, frames, program
@@ -334,7 +333,7 @@ def test_a_record_that_is_longer_than_any_is_not_read(work: Path) -> None:
 
 def test_the_longest_program_is_read(work: Path) -> None:
     path = work / "program.ch11"
-    data = bytes(4) + b"CBPR" + struct.pack("<HHIQHH", 1, 1, 3, 9, 4_096, 0) + bytes(8 * 4_096)
+    data = program_data(1, 3, bytes(8 * 4_096), 9)
     path.write_bytes(packet_of(0, data, 0, 0, 0, True))
     told = everything(Growth(str(path)))
     judge("the longest program is read", [(it.version, len(it.insns)) for it in told] == [(3, 8 * 4_096)])

@@ -7,15 +7,12 @@ It shares no code with the program, whose recordings are compared with its own b
 from __future__ import annotations
 
 import random
-import struct
 from collections.abc import Callable, Iterator, Sequence
 from typing import NamedTuple, Optional
 
-from frames import COMPUTER, FRAMES, HEADER_LENGTH, body_of, packet_of, record_of
+from frames import COMPUTER, FRAMES, HEADER_LENGTH, body_of, end_data, insns_of, packet_of, program_data, record_of
 
 COUNTERS = 1 << 48
-INSN, PROGRAM = struct.Struct("<HBBI"), struct.Struct("<I4sHHIQHH")
-END = struct.Struct("<I4sHHQQ")
 
 
 class Filter(NamedTuple):
@@ -136,9 +133,9 @@ def parts(channel: Channel, moments: list[Moment]) -> Iterator[list[Item]]:
 
 
 def program(channel: Channel, group: Group) -> bytes:
-    count, *insns = FILTERS[channel.filters[group.version][1]].listing.strip(",").split(",")
-    head = PROGRAM.pack(0, b"CBPR", 1, channel.number, group.version, group.first, int(count), 0)
-    return head + b"".join(INSN.pack(*map(int, it.split())) for it in insns)
+    _, *listed = FILTERS[channel.filters[group.version][1]].listing.strip(",").split(",")
+    insns = insns_of(*(tuple(map(int, it.split())) for it in listed))
+    return program_data(channel.number, group.version, insns, group.first)
 
 
 def recording(channel: Channel, items: Sequence[Item], is_summed: bool = True) -> bytes:
@@ -159,7 +156,7 @@ def recording(channel: Channel, items: Sequence[Item], is_summed: bool = True) -
     for item in taken(channel, items):
         if item.frame is not None:
             count, counter = count + 1, item.counter
-    add(0, END.pack(0, b"CBPR", 2, channel.number, count, kept), COMPUTER, counter)
+    add(0, end_data(channel.number, count, kept), COMPUTER, counter)
     return b"".join(packets)
 
 

@@ -7,7 +7,7 @@ import struct
 from collections.abc import Callable, Iterator
 from typing import NamedTuple
 
-from frames import COMPUTER, FRAMES, body_of, end_packet, packet_of, program_packet, with_check_sequence
+from frames import COMPUTER, FRAMES, body_of, end_data, end_packet, packet_of, program_packet, with_check_sequence
 from pcapng import interface, old_packet, option, packet, simple_packet
 
 # ---- captures: options of interfaces and of frames, by their codes
@@ -197,8 +197,7 @@ def of_frames(frames: list[tuple[int, int, bytes]], is_summed: bool, has_filler:
 
 def end_of(channel: int, offered: int, kept: int) -> bytes:
     """The packet of an end."""
-    data = struct.pack("<I4sHHQQ", 0, b"CBPR", 2, channel, offered, kept)
-    return packet_of(0, data, 1, COMPUTER, 9, True)
+    return packet_of(0, end_data(channel, offered, kept), 1, COMPUTER, 9, True)
 
 
 ODD = [(32, 0, frame_of(61, 1)), (33, 0, frame_of(65, 2))]

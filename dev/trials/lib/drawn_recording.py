@@ -3,11 +3,10 @@
 from __future__ import annotations
 
 import random
-import struct
 from collections import Counter
 from typing import NamedTuple, Optional
 
-from frames import COMPUTER, FRAMES, body_of, packet_of
+from frames import COMPUTER, FRAMES, body_of, end_data, insns_of, packet_of, program_data
 
 TICKS = 10**7
 OTHER = 0x40
@@ -90,16 +89,14 @@ class DrawnRecording:
     def add_program(self, channel: int, first: int, counter: int, insns: bytes) -> None:
         """Adds the next version of a channel's filter."""
         versions = self.channel(channel).versions
-        head = struct.pack("<I4sHHIQHH", 0, b"CBPR", 1, channel, len(versions), first, len(insns) // 8, 0)
-        self.add(0, head + insns, COMPUTER, counter, "program")
+        self.add(0, program_data(channel, len(versions), insns, first), COMPUTER, counter, "program")
         versions.append(Version(len(versions), first, counter, insns))
 
     def add_end(self, channel: int, dropped: int, counter: int) -> None:
         """Adds the end of a channel."""
         known = self.channel(channel)
         known.end = len(known.frames) + dropped, len(known.frames), counter
-        data = struct.pack("<I4sHHQQ", 0, b"CBPR", 2, channel, *known.end[:2])
-        self.add(0, data, COMPUTER, counter, "end")
+        self.add(0, end_data(channel, *known.end[:2]), COMPUTER, counter, "end")
 
     def add_other(self, channel: int) -> None:
         """Adds a packet of another recorder."""
@@ -120,7 +117,7 @@ class DrawnRecording:
 
 
 def drawn_insns(draw: random.Random) -> bytes:
-    return struct.pack("<HBBI", 0, 0, 0, draw.randrange(2**32)) + struct.pack("<HBBI", 6, 0, 0, draw.randrange(2))
+    return insns_of((0, 0, 0, draw.randrange(2**32)), (6, 0, 0, draw.randrange(2)))
 
 
 def drawn_frames(draw: random.Random, counter: int) -> list[tuple[int, int, int]]:

@@ -14,6 +14,8 @@ HEAD = bytes.fromhex("020000000002 020000000001 88b5")
 # The types of packets.
 COMPUTER, FRAMES = 0x00, 0x68
 SYNC, HEADER_LENGTH = 0xEB25, 24
+# What begins a record, its kinds, and the bytes of an instruction.
+TAG, PROGRAM, END, INSN_LEN = b"CBPR", 1, 2, 8
 
 
 class Record(NamedTuple):
@@ -129,6 +131,26 @@ def frames_packet(frames: Iterable[tuple[int, int, bytes]], sequence: int, count
     return packet_of(1, body_of(frames), sequence, FRAMES, counter, is_summed)
 
 
+def record_data(kind: int, channel: int, rest: bytes, word: int = 0) -> bytes:
+    """The data of a packet of a record: what each has, and the rest of its kind."""
+    return struct.pack("<I4sHH", word, TAG, kind, channel) + rest
+
+
+def insns_of(*insns: tuple) -> bytes:
+    """The bytes of instructions."""
+    return b"".join(struct.pack("<HBBI", *it) for it in insns)
+
+
+def program_data(channel: int, version: int, insns: bytes, first: int = 0) -> bytes:
+    """The data of the packet of a program, which is in force from a frame on."""
+    return record_data(PROGRAM, channel, struct.pack("<IQHH", version, first, len(insns) // INSN_LEN, 0) + insns)
+
+
+def end_data(channel: int, offered: int, kept: int) -> bytes:
+    """The data of the packet of a channel's end."""
+    return record_data(END, channel, struct.pack("<QQ", offered, kept))
+
+
 def program_packet(
     channel: int,
     version: int,
@@ -138,11 +160,10 @@ def program_packet(
     sequence: int = 0,
 ) -> bytes:
     """The packet of a program of one instruction, as often as `count` says, from frame 0 on."""
-    data = struct.pack("<I4sHHIQHH", 0, b"CBPR", 1, channel, version, 0, count, 0) + struct.pack("<HBBI", *insn) * count
+    data = program_data(channel, version, insns_of(insn) * count)
     return packet_of(0, data, sequence, COMPUTER, 0, is_summed)
 
 
 def end_packet(channel: int, count: int, sequence: int = 1, is_summed: bool = True, counter: int = 9) -> bytes:
     """The packet of the end of a channel, of whose frames all were kept."""
-    data = struct.pack("<I4sHHQQ", 0, b"CBPR", 2, channel, count, count)
-    return packet_of(0, data, sequence, COMPUTER, counter, is_summed)
+    return packet_of(0, end_data(channel, count, count), sequence, COMPUTER, counter, is_summed)

@@ -15,11 +15,11 @@ import threading
 from pathlib import Path
 from typing import Any, NamedTuple, Optional
 
+from packets import packets_in as recorded_packets
 from recordings import extracted
 from streamed import Stream
 from support import BPFREC, SECONDS, TOOLS, judge_quietly, nanoseconds, outcome, present, wait_for
 from whole_file import Origin, Setup
-from whole_file import packets_in as recorded_packets
 from whole_file_clock import SECOND
 from whole_file_parts import ORIGIN, parts_of, recorded
 

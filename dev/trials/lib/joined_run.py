@@ -6,8 +6,9 @@ from __future__ import annotations
 import struct
 from typing import NamedTuple, Optional
 
+from packets import packets_in
 from support import BPFREC, outcome
-from whole_file import Piece, Refused, packets_in
+from whole_file import Piece, Refused
 
 VERSIONS, NUMBERS = 1 << 32, 1 << 64
 # Answers of the audit of which no recording of a run is taken: those of a packet, and those of a channel.

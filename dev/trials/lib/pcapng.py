@@ -1,7 +1,6 @@
 """Capture files that are written by hand, classic and pcapng, in both byte orders."""
 
 import struct
-from typing import NamedTuple
 
 from frames import with_check_sequence
 
@@ -106,43 +105,6 @@ def simple_packet(order: str, frame: bytes, length: int = 0) -> bytes:
 
 def flags(value: int) -> bytes:
     return option("<", 2, struct.pack("<I", value))
-
-
-class Block(NamedTuple):
-    """A block of an interface or of a frame that is read: its kind, its interface, its comment, and its name."""
-
-    kind: int
-    interface: int
-    comment: str
-    name: str
-
-
-def described(capture: bytes) -> list[Block]:
-    """The interfaces and frames of a little-endian capture of one section."""
-    found: list[Block] = []
-    at = number = 0
-    while at < len(capture):
-        kind, length = struct.unpack_from("<II", capture, at)
-        begin, interface = at + 16, number
-        if kind == 6:
-            interface, size = struct.unpack_from("<I8xI", capture, at + 8)
-            begin = at + 28 + size + -size % 4
-        if kind in (1, 6):
-            texts = texts_in(capture[begin : at + length - 4])
-            found.append(Block(kind, interface, texts.get(1, ""), texts.get(2, "") if kind == 1 else ""))
-            number += kind == 1
-        at += length
-    return found
-
-
-def texts_in(options: bytes) -> dict[int, str]:
-    """The options of a block that are texts, by their codes."""
-    found, at = {}, 0
-    while at < len(options):
-        code, length = struct.unpack_from("<HH", options, at)
-        found[code] = options[at + 4 : at + 4 + length].decode(errors="replace")
-        at += 4 + length + -length % 4
-    return found
 
 
 SECOND = 1_700_000_000

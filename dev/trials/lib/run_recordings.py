@@ -6,26 +6,22 @@ from __future__ import annotations
 import struct
 from typing import NamedTuple, Optional
 
-from frames import COMPUTER, FRAMES, body_of, packet_of
+from frames import COMPUTER, FRAMES, PROGRAM, body_of, end_data, insns_of, packet_of, program_data
 from joined_file import Table
-from whole_file import packets_in
+from packets import packets_in
 from whole_file_trials import seconds_of
 
 # 2025-12-01 12:00:00, in nanoseconds since 1970.
 MOMENT = 1_764_590_400 * 10**9
-PROGRAM, END = 1, 2
 
 
-def insns_of(letter: str) -> bytes:
+def insns_for(letter: str) -> bytes:
     """A program that keeps all, and that its letter tells from others; `-` drops all, and `!` is none."""
-    first, last = struct.pack("<HBBI", 0, 0, 0, ord(letter)), (7 if letter == "!" else 6, 0, 0, letter != "-")
-    return first + struct.pack("<HBBI", *last)
+    return insns_of((0, 0, 0, ord(letter)), (7 if letter == "!" else 6, 0, 0, letter != "-"))
 
 
 def program(letter: str, version: int = 0, first: int = 0, counter: int = 0, channel: int = 1) -> bytes:
-    insns = insns_of(letter)
-    head = struct.pack("<I4sHHIQHH", 0, b"CBPR", PROGRAM, channel, version, first, len(insns) // 8, 0)
-    return packet_of(0, head + insns, 0, COMPUTER, counter, True)
+    return packet_of(0, program_data(channel, version, insns_for(letter), first), 0, COMPUTER, counter, True)
 
 
 def frames(*counters: int, channel: int = 1) -> bytes:
@@ -34,7 +30,7 @@ def frames(*counters: int, channel: int = 1) -> bytes:
 
 
 def end(offered: int, kept: Optional[int] = None, counter: int = 0, channel: int = 1) -> bytes:
-    data = struct.pack("<I4sHHQQ", 0, b"CBPR", END, channel, offered, offered if kept is None else kept)
+    data = end_data(channel, offered, offered if kept is None else kept)
     return packet_of(0, data, 0, COMPUTER, counter, True)
 
 

@@ -45,7 +45,7 @@ from bpfrec_tools.live.status.view import (
     Unkept,
     View,
 )
-from frames import COMPUTER, FRAMES, end_packet, packet_of
+from frames import FRAMES, end_packet, packet_of, program_packet
 
 # The package's names, for trials, which import them from here.
 __all__ = [
@@ -104,8 +104,7 @@ class Wire:
 
 def program(channel: int, version: int, returned: int = 1) -> bytes:
     """The packet of a version of a filter, which returns a number."""
-    data = struct.pack("<I4sHHIQHH", 0, b"CBPR", 1, channel, version, 0, 1, 0) + struct.pack("<HBBI", 6, 0, 0, returned)
-    return packet_of(0, data, 0, COMPUTER, 0, True)
+    return program_packet(channel, version, (6, 0, 0, returned))
 
 
 def frames(channel: int, count: int, length: int = 250, is_summed: bool = True) -> bytes:

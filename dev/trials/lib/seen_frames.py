@@ -1,12 +1,12 @@
 """The frames that tshark sees in captures of bpfrec export, beside those that extract gives of the recordings."""
 
-import struct
 from collections.abc import Callable
 from pathlib import Path
 from typing import NamedTuple
 
 from captures import fields_of
 from frames import Record, records
+from pcapng import frames_in
 from recorder import extracted
 from support import BPFREC, EXPORT, judge_quietly, outcome, run
 
@@ -26,12 +26,10 @@ def seen_in(capture: Path) -> list[Seen]:
     fields = [(int(it[0]), it[1]) for it in fields_of(capture)]
     plain = capture.with_suffix(".plain")
     run("editcap", "-F", "nsecpcap", capture, plain)
-    data, at, found = plain.read_bytes(), 24, []
-    for number, moment in fields:
-        seconds, rest, length, _ = struct.unpack_from("<IIII", data, at)
+    found = []
+    for (number, moment), (seconds, rest, frame, _) in zip(fields, frames_in(plain.read_bytes())):
         judge_quietly(f"tshark's time {moment}", moment == f"{seconds}.{rest:09}")
-        found.append(Seen(number, seconds * SECOND + rest, data[at + 16 : at + 16 + length]))
-        at += 16 + length
+        found.append(Seen(number, seconds * SECOND + rest, frame))
     return found
 
 

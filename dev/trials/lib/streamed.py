@@ -11,6 +11,7 @@ import struct
 from typing import Iterator, NamedTuple, Optional
 
 from frames import COMPUTER, FRAMES, body_of
+from packets import frames_in
 from whole_file import (
     CHANNELS,
     MOST_DISORDER,
@@ -20,7 +21,6 @@ from whole_file import (
     Piece,
     Refused,
     Setup,
-    frames_in,
     judge_year,
     pieces_of,
     setup_body,

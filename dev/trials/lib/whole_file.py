@@ -11,6 +11,7 @@ from collections import Counter, deque
 from typing import Collection, Iterable, Iterator, NamedTuple, Optional
 
 from frames import COMPUTER, FRAMES, body_of, packet_of
+from packets import Frame, frames_in, packets_in
 from whole_file_clock import Mark, civil, marks_of, rules_of, time_body
 
 SETUP, TIME, INDEX = 0x01, 0x11, 0x03
@@ -49,12 +50,6 @@ class Setup(NamedTuple):
     channels: dict[int, tuple[str, int]] = {}
 
 
-class Frame(NamedTuple):
-    counter: int
-    word: int
-    bytes: bytes
-
-
 class Piece(NamedTuple):
     """What becomes one packet, or more where time packets stand between: frames, or a record as it is. `at` is the place
     of its packet in the recording, and `of` that of the recording among several."""
@@ -67,28 +62,6 @@ class Piece(NamedTuple):
 
 
 # ---- the recording
-
-
-def packets_in(recording: bytes) -> Iterator[tuple[int, int, int, int, bytes]]:
-    """The place, channel, type, counter and data of each packet."""
-    at = 0
-    while at < len(recording):
-        channel, length, data_length = struct.unpack_from("<HII", recording, at + 2)
-        low, high = struct.unpack_from("<IH", recording, at + 16)
-        data = recording[at + 24 : at + 24 + data_length]
-        yield at, channel, recording[at + 15], low | high << 32, data
-        at += length
-
-
-def frames_in(data: bytes) -> list[Frame]:
-    """The frames of a body."""
-    found, at = [], 4
-    for _ in range(struct.unpack_from("<I", data)[0] & 0xFFFF):
-        low, high, word = struct.unpack_from("<IHxxI", data, at)
-        length = word & 0x3FFF
-        found.append(Frame(low | high << 32, word & ~0xFFFF | length, data[at + 12 : at + 12 + length]))
-        at += 12 + length + length % 2
-    return found
 
 
 def contents_of(recording: bytes, of: int = 0) -> Iterator[tuple[int, Piece]]:

@@ -9,8 +9,9 @@ from typing import Any, NamedTuple
 
 from drawn_recording import DrawnRecording, drawn_insns
 from frames import packet_of
+from packets import packets_in
 from second import Check
-from whole_file import INDEX, MOST_NAMED, File, Origin, Setup, packets_in, whole_file
+from whole_file import INDEX, MOST_NAMED, File, Origin, Setup, whole_file
 
 SECOND = 10_000_000
 # 2025-12-01 12:00:00.250000123.

@@ -8,7 +8,6 @@ import fcntl
 import os
 import signal
 import statistics
-import struct
 import subprocess
 import threading
 import time
@@ -20,6 +19,7 @@ from bpfrec_tools.follow.growing import FACTS_PATIENCE
 from frames import HEAD, feed_of, numbered, records, with_check_sequence
 from ground import drawn_flight
 from namespace import socket_into
+from pcapng_blocks import COMMENT, INTERFACE, NAME, PACKET, Block, Frame, blocks_of, frames_in
 from recordings import Traffic, begin, extracted, facts_of, has_open, is_approved, parts_of, recordings, write_settings
 from support import BPFREC, EXPORT, TOOLS, judge, judge_quietly, outcome, run, wait_for
 from whole_file_parts import ORIGIN
@@ -27,7 +27,6 @@ from whole_file_parts import ORIGIN
 WANTED = {"bin/bpfrec": "make build", "bin/capture": "make build", "ip": "iproute2", "tshark": "tshark"}
 pytestmark = [pytest.mark.usefixtures("namespace")]
 FOLLOW = TOOLS / "follow"
-INTERFACE, PACKET = 1, 6
 SECONDS = 60
 
 
@@ -61,22 +60,20 @@ class Follower:
 
     def read(self) -> None:
         assert self.process.stdout
-        with self.process.stdout as blocks:
-            while not self.leaves and (head := blocks.read(8)):
-                kind, length = struct.unpack("<II", head)
-                self.take(kind, blocks.read(length - 8)[:-4])
+        with self.process.stdout as stream:
+            for block in blocks_of(stream):
+                if self.leaves:
+                    return
+                self.take(block)
 
-    def take(self, kind: int, body: bytes) -> None:
+    def take(self, block: Block) -> None:
         """Takes a block."""
-        if kind == INTERFACE:
-            options = options_of(body[8:])
-            self.names += [options[2]]
-            self.comments += [options[1]]
-        elif kind == PACKET:
-            number, high, low, length, _ = struct.unpack_from("<5I", body)
-            self.shown.append(Shown(time.time(), number, high << 32 | low, body[20 : 20 + length]))
-            options = options_of(body[20 + length + -length % 4 :])
-            self.comments += [options[1]] if 1 in options else []
+        if block.kind == INTERFACE:
+            self.names.append(block.text(NAME))
+        elif block.kind == PACKET:
+            self.shown.append(Shown(time.time(), *block.frame()))
+        if block.kind in (INTERFACE, PACKET) and block.text(COMMENT):
+            self.comments.append(block.text(COMMENT))
 
     def frames(self, channel: str) -> list[bytes]:
         """The frames of an interface."""
@@ -90,28 +87,10 @@ class Follower:
         return status
 
 
-def options_of(data: bytes) -> dict[int, str]:
-    """The options of a block; texts, and others as they are."""
-    found, at = {}, 0
-    while at + 4 <= len(data):
-        code, length = struct.unpack_from("<HH", data, at)
-        if code:
-            found[code] = data[at + 4 : at + 4 + length].decode(errors="replace")
-        at += 4 + length + -length % 4
-    return found
-
-
-def captured(work: Path, *paths: Path) -> list[tuple[int, bytes]]:
-    """The moments and bytes of the frames that bpfrec export gives of recordings."""
+def captured(work: Path, *paths: Path) -> list[Frame]:
+    """The frames that bpfrec export gives of recordings."""
     run(EXPORT, "--force", *paths, work / "all.pcapng")
-    data, at, found = (work / "all.pcapng").read_bytes(), 0, []
-    while at < len(data):
-        kind, length = struct.unpack_from("<II", data, at)
-        if kind == PACKET:
-            _, high, low, size, _ = struct.unpack_from("<5I", data, at + 8)
-            found.append((high << 32 | low, data[at + 28 : at + 28 + size]))
-        at += length
-    return found
+    return frames_in((work / "all.pcapng").read_bytes())
 
 
 def test_frames_of_recordings_that_follow_one_another_are_shown_once(work: Path) -> None:
@@ -136,7 +115,7 @@ def test_frames_of_recordings_that_follow_one_another_are_shown_once(work: Path)
         wanted = [it.frame for part in parts_of(work, "flight", channel) for it in part]
         found = follower.frames(name)
         judge(f"each frame of {name} once, in order", found == wanted, (len(found), len(wanted)))
-    wanted_times = sorted(captured(work, *recordings(work, "flight")))
+    wanted_times = sorted((it.moment, it.bytes) for it in captured(work, *recordings(work, "flight")))
     judge("with the times of pcapng", sorted((it.moment, it.frame) for it in follower.shown) == wanted_times)
     texts = [it for it in follower.comments if "ret #4" in it]
     judge("the filter that was changed is said once", len(texts) == 1, follower.comments)
@@ -326,5 +305,5 @@ def test_a_run_of_before_is_not_taken_for_the_next_recording(work: Path) -> None
     traffic.end()
     judge_quietly("it ends well", (second.ended()[0], follower.ended()) == (0, 0), second.told())
     paths = [it for it in recordings(work, "two") if it not in earlier[2:]]
-    frames = [frame for _, frame in captured(work, *paths)]
+    frames = [it.bytes for it in captured(work, *paths)]
     judge("the frames of its own run", sorted(it.frame for it in follower.shown) == sorted(frames), len(frames))

@@ -14,7 +14,7 @@ import pytest
 from bpfrec.formats.facts import Facts, tick_of
 from frames import Record, numbered, records
 from namespace import send_together, socket_into
-from pcapng import described
+from pcapng_blocks import lines_at_frames
 from recordings import (
     Traffic,
     begin,
@@ -159,7 +159,7 @@ def test_lines_at_rotations_are_done_once(work: Path) -> None:
     judge("and installed once, as the next version of its recording", ascending, versions)
     judge("marks are where their frames are", are_beside_frames(work), found[:3])
     run(EXPORT, *recordings(work, "turn"), work / "all.pcapng")
-    lines = [line for it in described((work / "all.pcapng").read_bytes()) for line in it.comment.splitlines()]
+    lines = lines_at_frames((work / "all.pcapng").read_bytes())
     shown = [line.split()[-1] for line in lines if line.startswith("mark ")]
     judge(
         "a capture of all has each on one frame, in order", shown == [it for it, _ in found], (len(shown), len(found))
@@ -181,7 +181,7 @@ def test_follow_shows_each_mark_once_over_all_recordings(work: Path) -> None:
     running.type_in("mark last\nstop")
     judge_quietly("it ends well", running.ended()[0] == 0, running.told()[-500:])
     judge_quietly("and follow with it", follower.wait(30) == 0, (work / "errors").read_text())
-    lines = [line for it in described((work / "shown.pcapng").read_bytes()) for line in it.comment.splitlines()]
+    lines = lines_at_frames((work / "shown.pcapng").read_bytes())
     left = [line.split()[-1] for line in (work / "errors").read_text().splitlines() if " no frame follows " in line]
     lines += [f"mark {it}" for it in left]
     found = [line.split()[-1] for line in lines if line.startswith("mark ")]

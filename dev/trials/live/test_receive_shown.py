@@ -10,9 +10,9 @@ from pathlib import Path
 import pytest
 from frames import FRAMES
 from ground import RECEIVE, drawn_flight, free_port, is_taken, send, stream_of
+from packets import frames_in
 from rows import printed
 from support import judge, judge_quietly, outcome, wait_for
-from whole_file import frames_in
 from whole_file_parts import ORIGIN, parts_of
 
 WANTED = {"bin/bpfrec": "make build", "ip": "iproute2", "tshark": "tshark"}

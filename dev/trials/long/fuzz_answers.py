@@ -1,7 +1,6 @@
 """What `bpfrec` may answer, by docs/user/formats/, and runs of it that are judged by that, for fuzz.py."""
 
 import re
-import struct
 import subprocess
 from collections.abc import Callable
 from dataclasses import dataclass, field
@@ -160,21 +159,3 @@ def judge_frames(recording: bytes, frames: list[Frame], net: int, speed: int, re
     for frame, *numbers in found:
         if frame not in left or numbers != [net, speed]:
             raise Wrong(f"a frame of counter {frame[0]}, marks {frame[1]} and {len(frame[2])} bytes, {numbers}")
-
-
-# ---- exports
-
-# the type of a pcapng block with a frame
-PACKET_BLOCK = 6
-
-
-def blocks_of(capture: bytes) -> list[int]:
-    """The types of the blocks of a pcapng file, which is nothing else."""
-    found, at = [], 0
-    while at < len(capture):
-        kind, length = struct.unpack_from("<II", capture, at)
-        if length < 12 or length % 4 or capture[at + length - 4 : at + length] != struct.pack("<I", length):
-            raise Wrong("an export has a block of a wrong length")
-        found.append(kind)
-        at += length
-    return found

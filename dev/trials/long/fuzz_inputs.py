@@ -3,7 +3,8 @@
 from collections.abc import Iterator
 from random import Random
 
-from frames import sum_of
+from frames import FRAMES, sum_of
+from packets import frames_in, packets_in
 from support import ROOT
 
 # Counter, marks and bytes.
@@ -113,7 +114,7 @@ def with_time_marks(draw: Random, frames: list[Frame], span: int) -> list[Frame]
     return found
 
 
-def frames_in(feed: bytes, has_time_marks: bool) -> Iterator[Frame]:
+def frames_of_feed(feed: bytes, has_time_marks: bool) -> Iterator[Frame]:
     """The frames and time marks of a feed, up to its first fault."""
     at = 0
     while len(feed) - at >= 9:
@@ -128,18 +129,9 @@ def frames_in(feed: bytes, has_time_marks: bool) -> Iterator[Frame]:
 
 def held_frames(recording: bytes) -> Iterator[tuple[Frame, int, int]]:
     """The frames of a recording, each with its net and speed, by docs/user/formats/recording.md."""
-    at = 0
-    while at < len(recording):
-        length, data_length = (int.from_bytes(recording[at + it : at + it + 4], "little") for it in (4, 8))
-        body = recording[at + 24 : at + 24 + data_length] if recording[at + 15] == 0x68 else bytes(4)
-        place = 4
-        for _ in range(int.from_bytes(body[:2], "little")):
-            counter, word = (int.from_bytes(body[place + it : place + it + 6], "little") for it in (0, 8))
-            word &= 0xFFFFFFFF
-            frame = body[place + 12 : place + 12 + (word & 0x3FFF)]
-            yield (counter, word >> 31 & 1 | word >> 29 & 2, frame), word >> 16 & 255, word >> 24 & 15
-            place += 12 + len(frame) + len(frame) % 2
-        at += length
+    for *_, kind, _, data in packets_in(recording):
+        for counter, word, content in frames_in(data) if kind == FRAMES else []:
+            yield (counter, word >> 31 & 1 | word >> 29 & 2, content), word >> 16 & 255, word >> 24 & 15
 
 
 class Corpus:

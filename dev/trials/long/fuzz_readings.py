@@ -3,8 +3,9 @@
 from collections import Counter
 from random import Random
 
-from fuzz_answers import PACKET_BLOCK, Answer, Case, Run, Wrong, blocks_of
+from fuzz_answers import Answer, Case, Run, Wrong
 from fuzz_inputs import ODD_OUTPUTS, Corpus, damaged, with_sums
+from pcapng_blocks import frames_in
 from support import present
 
 
@@ -74,7 +75,10 @@ def exports(run: Run, files: dict[str, bytes], listed: Answer) -> int:
     exported = run(Case(["export", "in", "out", "1764590400"], files))
     if (exported.status, exported.errors) != (listed.status, listed.errors):
         raise Wrong("list and export disagree")
-    return sum(kind == PACKET_BLOCK for kind in blocks_of(present(exported.file("out"))))
+    try:
+        return len(frames_in(present(exported.file("out"))))
+    except ValueError as fault:
+        raise Wrong(f"an export has {fault}") from None
 
 
 def upgrades(run: Run, recording: bytes, listed: Answer, audited: Answer) -> None:

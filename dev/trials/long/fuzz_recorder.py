@@ -13,7 +13,7 @@ from fuzz_inputs import (
     damaged,
     drawn_frames,
     drawn_program,
-    frames_in,
+    frames_of_feed,
     listing_of,
     with_time_marks,
 )
@@ -52,7 +52,7 @@ def feeds(run: Run, draw: Random, corpus: Corpus) -> None:
         raise Wrong(f"an OUT that can't be looked at: {refused.errors}")
     recorded = run(Case(["record", "settings", "out"], files, lines))
     recording = present(recorded.file("out"))
-    taken = list(frames_in(feed, span > 0))
+    taken = list(frames_of_feed(feed, span > 0))
     judge_frames(recording, taken, net, speed, recorded.output)
     readings(run, recording)
     audited = run(Case(["audit", "in"], {"in": recording}))

@@ -10,7 +10,7 @@ import pytest
 from bpfrec.formats.body import Frames
 from bpfrec.formats.packet import What
 from bpfrec.formats.records import Program
-from frames import COMPUTER, FRAMES, HEADER_LENGTH, sum_of
+from frames import COMPUTER, FRAMES, HEADER_LENGTH, PROGRAM, end_data, insns_of, record_data, sum_of
 from reading import packets_of, salvaged
 from support import BPFREC, judge, outcome
 
@@ -42,16 +42,12 @@ def body(*frames: bytes, word: int = 0) -> bytes:
     return struct.pack("<I", word | len(frames)) + b"".join(frames)
 
 
-def record(kind: int, rest: bytes, channel: int = 1, word: int = 0) -> bytes:
-    return struct.pack("<I4sHH", word, b"CBPR", kind, channel) + rest
-
-
 def program(insns: int, said: int | None = None, zero: int = 0) -> bytes:
     count = insns if said is None else said
-    return record(1, struct.pack("<IQHH", 0, 0, count, zero) + b"\x06\0\0\0\1\0\0\0" * insns)
+    return record_data(PROGRAM, 1, struct.pack("<IQHH", 0, 0, count, zero) + insns_of((6, 0, 0, 1)) * insns)
 
 
-END, GREATEST_END = record(2, struct.pack("<QQ", 2**64 - 1, 2**64 - 1)), f"end 1 {2**64 - 1} {2**64 - 1}"
+END, GREATEST_END = end_data(1, 2**64 - 1, 2**64 - 1), f"end 1 {2**64 - 1} {2**64 - 1}"
 OF_ONE = body(frame())
 COMPUTED = {"kind": COMPUTER, "channel": 0}
 ETHERNET_ROOM = MOST_ETHERNET - HEADER_LENGTH
@@ -94,15 +90,15 @@ PACKETS: dict[str, tuple[bytes, str]] = {
     "instruction_left_over": (packet(program(2, 1), **COMPUTED), "read 5 Body 0"),
     "tag_alone": (packet(bytes(4) + b"CBPR", **COMPUTED), "read 5 Body 0"),
     "cut_tag": (packet(bytes(4) + b"CBP", **COMPUTED), "other"),
-    "head_of_11": (packet(record(1, b"")[:11], **COMPUTED), "read 5 Body 0"),
-    "head_of_12": (packet(record(1, b""), **COMPUTED), "read 5 Body 0"),
+    "head_of_11": (packet(record_data(1, 1, b"")[:11], **COMPUTED), "read 5 Body 0"),
+    "head_of_12": (packet(record_data(1, 1, b""), **COMPUTED), "read 5 Body 0"),
     "greatest_end": (packet(END, **COMPUTED), GREATEST_END),
     "end_of_27": (packet(END[:-1], **COMPUTED), "read 5 Body 0"),
     "end_of_29": (packet(END + b"\0", **COMPUTED), "read 5 Body 0"),
-    "kind_0": (packet(record(0, bytes(16)), **COMPUTED), "read 5 Body 0"),
-    "kind_3": (packet(record(3, bytes(16)), **COMPUTED), "read 5 Body 0"),
-    "channel_0": (packet(record(2, bytes(16), 0), **COMPUTED), "read 5 Body 0"),
-    "greatest_channel": (packet(record(2, bytes(16), 65_535), **COMPUTED), "end 65535 0 0"),
+    "kind_0": (packet(record_data(0, 1, bytes(16)), **COMPUTED), "read 5 Body 0"),
+    "kind_3": (packet(record_data(3, 1, bytes(16)), **COMPUTED), "read 5 Body 0"),
+    "channel_0": (packet(record_data(2, 0, bytes(16)), **COMPUTED), "read 5 Body 0"),
+    "greatest_channel": (packet(record_data(2, 65_535, bytes(16)), **COMPUTED), "end 65535 0 0"),
     "record_of_channel_1": (packet(END, kind=COMPUTER, channel=1), "other"),
     # what isn't judged
     "any_word_of_a_body": (packet(body(frame(), word=0x0FFF0000)), "frames 1"),
@@ -112,7 +108,7 @@ PACKETS: dict[str, tuple[bytes, str]] = {
     "any_filler_of_a_frame": (packet(body(frame(bytes(19), filler=255), frame())), "frames 2"),
     "any_filler_of_a_packet": (packet(body(frame(bytes(19))), filler_byte=255), "frames 1"),
     "any_filler_at_the_sum": (packet(END, **COMPUTED, **CHECKSUMMED, filler=8, filler_byte=255), GREATEST_END),
-    "any_word_of_a_record": (packet(record(2, bytes(16), word=2**32 - 1), **COMPUTED), "end 1 0 0"),
+    "any_word_of_a_record": (packet(record_data(2, 1, bytes(16), word=2**32 - 1), **COMPUTED), "end 1 0 0"),
     "any_zero_of_a_program": (packet(program(1, zero=65_535), **COMPUTED), "program 1 0 0 1"),
     "any_version_and_sequence": (packet(OF_ONE, version=255, sequence=255), "frames 1"),
     "any_counter": (packet(OF_ONE, counter=2**48 - 1), "frames 1"),

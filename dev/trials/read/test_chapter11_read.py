@@ -6,10 +6,10 @@ from pathlib import Path
 
 import pytest
 from frames import COMPUTER
+from packets import packets_in
 from reading import recording_of_three
 from rows import expected_rows, flight_of, printed, rows_of
 from support import BPFREC, SALVAGE, judge, judge_quietly, outcome, run, sums
-from whole_file import packets_in
 from whole_file_trials import chapter11
 
 WANTED = {"bin/bpfrec": "make build", "tshark": "tshark"}

@@ -12,10 +12,11 @@ from pathlib import Path
 import pytest
 from drawn_recording import DrawnRecording, drawn_insns
 from frames import COMPUTER, FRAMES, body_of, packet_of
+from packets import packets_in
 from reading import SAMPLES
 from streamed import Stream
 from support import BPFREC, CHECK_SUMS, judge, judge_quietly, outcome
-from whole_file import Origin, Refused, Setup, packets_in
+from whole_file import Origin, Refused, Setup
 from whole_file_trials import setup_text
 
 WANTED = {"bin/bpfrec": "make build"}

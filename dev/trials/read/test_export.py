@@ -16,7 +16,7 @@ from captures import fields_of
 from damage import damaged
 from exports import Shown, wanted_of
 from frames import FRAMES, HEAD, body_of, packet_of, program_packet, with_check_sequence
-from pcapng import described
+from pcapng_blocks import COMMENT, INTERFACE, blocks_in
 from reading import SAMPLES, SEED, packets_of, recording_of_three
 from recorder import RECORDINGS, extracted
 from rows import AS_ROOT, TICKS_A_SECOND, drawn_recording, flight_of, seconds_of
@@ -225,7 +225,8 @@ def test_programs_that_read_captures_take_an_export(work: Path, three: Path) -> 
 
 def test_scapy_reads_the_times_of_an_export(work: Path, three: Path) -> None:
     """scapy 2.5 passes over what stands behind a comment, and takes times for microseconds without their unit."""
-    wanted, texts = wanted_of(three.read_bytes()), [it.comment for it in described(exported(work, three).read_bytes())]
+    wanted, blocks = wanted_of(three.read_bytes()), blocks_in(exported(work, three).read_bytes())
+    texts = [it.text(COMMENT) for it in blocks if it.kind == INTERFACE]
     seen = run(sys.executable, "-c", SCAPY, work / "exported.pcapng").splitlines()
     rows = [f"{it.counter} {TICKS_A_SECOND} {it.bytes.hex()}" for it in wanted.frames]
     judge(f"{len(rows)} frames of interfaces with comments", seen == rows and any(texts), seen[:1])

@@ -4,8 +4,7 @@ from __future__ import annotations
 
 import json
 import re
-import struct
-from collections.abc import Callable, Iterator
+from collections.abc import Callable
 from pathlib import Path
 from typing import Any
 
@@ -13,12 +12,13 @@ import pytest
 from bpfrec.formats.marks import marks_in
 from expected_facts import TAI_37, UNKNOWN_SCALE, facts_of_run
 from frames import FRAMES, body_of, end_packet, numbered, packet_of, program_packet, with_check_sequence
+from pcapng_blocks import COMMENT, SECTION, Block, blocks_in
 from support import EXPORT, INFO, TOOLS, judge, outcome, run
 
 WANTED = {"bin/bpfrec": "make build", "tshark": "tshark", "capinfos": "wireshark-common"}
 FOLLOW = TOOLS / "follow"
 ORIGIN = [("1764590400.000000000", 0, None, "UTC")]
-SECOND, SECTION = 10**7, 0x0A0D0D0A
+SECOND = 10**7
 
 
 def recording(path: Path, counters: dict[int, list[int]], marks: list, origins: list = ORIGIN, **more: Any) -> Path:
@@ -48,30 +48,13 @@ def comments(capture: Path) -> list[tuple[int, str]]:
     return found
 
 
-def sections(capture: Path) -> list[list[str]]:
-    """The lines of the comments of each section."""
-    data, at, found = capture.read_bytes(), 0, []
-    while at < len(data):
-        kind, length = struct.unpack_from("<II", data, at)
-        if kind == SECTION:
-            found.append([line for it in comments_in(data[at + 24 : at + length - 4]) for line in it.splitlines()])
-        at += length
-    return found
-
-
-def comments_in(options: bytes) -> Iterator[str]:
-    """The comments of a block's options."""
-    at = 0
-    while at < len(options):
-        code, length = struct.unpack_from("<HH", options, at)
-        if code == 1:
-            yield options[at + 4 : at + 4 + length].decode()
-        at += 4 + length + -length % 4
+def sections(capture: Path) -> list[Block]:
+    return [it for it in blocks_in(capture.read_bytes()) if it.kind == SECTION]
 
 
 def section_marks(capture: Path, section: int) -> list[str]:
     """The marks in the comments of a section."""
-    return [line for line in sections(capture)[section] if line.startswith("mark ")]
+    return [line for line in sections(capture)[section].text(COMMENT).splitlines() if line.startswith("mark ")]
 
 
 def by_pcapng(work: Path, *paths: object) -> Path:

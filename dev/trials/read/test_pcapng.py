@@ -13,7 +13,7 @@ import pytest
 from captures import fields_of
 from expected_facts import BEFORE_1970, THREE_ORIGINS, facts_of_run
 from frames import FRAMES, body_of, end_packet, numbered, packet_of, program_packet, records, with_check_sequence
-from pcapng import Block, described
+from pcapng_blocks import COMMENT, INTERFACE, NAME, PACKET, Block, blocks_in
 from reading import SAMPLES, SEED, recording_of_three
 from recorder import RECORDINGS, extracted
 from rows import drawn_recording, flight_of
@@ -189,7 +189,7 @@ def test_interfaces_and_comments_are_in_the_words_of_export(work: Path, three: P
         recording.write_bytes(versions_of_channels(draw))
     for recording in (*SAMPLES, three, *recordings):
         run(BPFREC, "export", recording, work / "exported.pcapng")
-        wanted, blocks = (described(it.read_bytes()) for it in (work / "exported.pcapng", made(work, recording)))
+        wanted, blocks = (blocks_in(it.read_bytes()) for it in (work / "exported.pcapng", made(work, recording)))
         judge_quietly("the names", sorted(names_in(wanted)) == sorted(names_in(blocks)), blocks[:4])
         for name in names_in(wanted):
             pairs = list(zip(comments_at(wanted, name), comments_at(blocks, name), strict=True))
@@ -198,25 +198,31 @@ def test_interfaces_and_comments_are_in_the_words_of_export(work: Path, three: P
             judge_quietly("the first one", pairs[0][1].startswith(pairs[0][0]), pairs[0])
             judge_quietly("and no other", pairs[0][0] != "" or pairs[0][1].startswith("channel "), pairs[0])
             found |= {re.sub(r"[0-9]+", "0", exported) for exported, _ in pairs}
-        judge_quietly("and texts of filters", all("ret #" in it.comment for it in blocks if "filter" in it.comment))
+        judge_quietly("and texts of filters", all("ret #" in it for it in comments_in(blocks) if "filter" in it))
     judge("each kind of words was there", len(found) == 3, found)
 
 
 def names_in(blocks: list[Block]) -> list[str]:
-    return [it.name for it in blocks if it.kind == 1]
+    return [it.text(NAME) for it in blocks if it.kind == INTERFACE]
+
+
+def comments_in(blocks: list[Block]) -> list[str]:
+    """The comments of interfaces, and behind them those of frames."""
+    return [it.text(COMMENT) for kind in (INTERFACE, PACKET) for it in blocks if it.kind == kind]
 
 
 def comments_at(blocks: list[Block], name: str) -> list[str]:
     """The comment of an interface, and those of its frames."""
     number = names_in(blocks).index(name)
-    return [it.comment for it in blocks if it.interface == number]
+    frames = [it for it in blocks if it.kind == PACKET and it.frame().interface == number]
+    return [comments_in(blocks)[number], *comments_in(frames)]
 
 
 def test_counts_of_a_channel_stand_behind_the_longest_filter(work: Path) -> None:
     """A comment has room for 65,535 bytes, which the text of a filter may fill."""
     path = work / "long.ch11"
     path.write_bytes(program_packet(1, 0, (4, 0, 0, 0xFFFF_FFFF), count=4_096) + end_packet(1, 7))
-    comment = described(made(work, path).read_bytes())[0].comment
+    comment = comments_in(blocks_in(made(work, path).read_bytes()))[0]
     judge(
         "as much of the text as there is room for", len(comment) == 65_535 and comment.startswith("filter version 0, ")
     )

@@ -6,7 +6,6 @@ from __future__ import annotations
 import json
 import os
 import random
-import struct
 from pathlib import Path
 from typing import NamedTuple, Optional
 
@@ -15,7 +14,8 @@ import pytest
 import rows
 from drawn_recording import DrawnRecording, drawn_recording
 from expected_facts import drawn_origins, facts_of_run, is_utc, moments_by
-from frames import COMPUTER, FRAMES, packet_of, records
+from frames import FRAMES, header_of, packet_of, program_packet, records
+from pcapng_blocks import PACKET, blocks_in
 from pythons import PROMISED, interpreter
 from reading import SEED, recording_of_three
 from recorder import extracted
@@ -27,7 +27,6 @@ from whole_file_parts import recorded
 
 WANTED = {"bin/bpfrec": "make build"}
 DRAWN = 8
-SECTION, INTERFACE, PACKET = 0x0A0D0D0A, 1, 6
 TICKS = 10_000_000
 
 
@@ -40,33 +39,11 @@ class Seen(NamedTuple):
     flags: int
 
 
-def options_in(block: bytes, at: int) -> dict[int, bytes]:
-    found = {}
-    while at + 4 <= len(block) - 4:
-        code, length = struct.unpack_from("<HH", block, at)
-        found[code] = block[at + 4 : at + 4 + length]
-        at += 4 + length + -length % 4
-    return found
-
-
-def frames_of(capture: bytes) -> list[Seen]:
-    """The frames of a capture of bpfrec export, read block by block."""
-    found, at = [], 0
-    while at < len(capture):
-        kind, length = struct.unpack_from("<II", capture, at)
-        block = capture[at : at + length]
-        if kind == PACKET:
-            interface, high, low, kept, _ = struct.unpack_from("<IIIII", block, 8)
-            flags = options_in(block, 28 + kept + -kept % 4).get(2, bytes(4))
-            found.append(Seen(interface, high << 32 | low, block[28 : 28 + kept], int.from_bytes(flags, "little")))
-        at += length
-    return found
-
-
 def captured(work: Path, *recordings: Path) -> list[Seen]:
     done = outcome(EXPORT, "--force", *recordings, work / "made.pcapng")
     judge_quietly("pcapng makes a capture", done.returncode in (0, 1) and "Traceback" not in done.stderr, done)
-    return frames_of((work / "made.pcapng").read_bytes())
+    blocks = [it for it in blocks_in((work / "made.pcapng").read_bytes()) if it.kind == PACKET]
+    return [Seen(*it.frame(), it.flags()) for it in blocks]
 
 
 def judge_frames(work: Path, recording: Path, origins: Optional[list[tuple]]) -> int:
@@ -258,16 +235,11 @@ def test_each_python_reads_the_same(work: Path) -> None:
 
 def test_many_filters_and_headers_that_claim_much_take_no_time(work: Path) -> None:
     """65,536 programs of as many channels, and headers behind one another that claim four gigabytes."""
-    head = struct.pack("<I4sHHIQHH", 0, b"CBPR", 1, 0, 0, 0, 0, 0)
-    programs = [
-        packet_of(0, head[:10] + struct.pack("<H", it) + head[12:], it, COMPUTER, 0, True) for it in range(1, 65_536)
-    ]
+    programs = [program_packet(it, 0, count=0, sequence=it) for it in range(1, 65_536)]
     (work / "x.ch11").write_bytes(b"".join(programs))
     opened = bpfrec.open(work / "x.ch11")
     judge("each has its channel", len(opened.channels) == len(opened.filters) == 65_535 and list(opened) == [])
-    claim = bytearray(packet_of(1, bytes(8), 0, 0x40, 0, False)[:24])
-    claim[4:8] = (2**32 - 4).to_bytes(4, "little")
-    claim[22:24] = (sum(struct.unpack("<11H", claim[:22])) % 2**16).to_bytes(2, "little")
-    (work / "x.ch11").write_bytes(bytes(claim) * 40_000 + packet_of(1, bytes(4), 0, FRAMES, 0, True))
+    claim = header_of(1, (2**32 - 4, 8), 0, 0x40, 0, False)
+    (work / "x.ch11").write_bytes(claim * 40_000 + packet_of(1, bytes(4), 0, FRAMES, 0, True))
     opened = bpfrec.open(work / "x.ch11", skip_damage=True)
     judge("nothing is found in them but their end", list(opened) == [] and len(opened.faults) >= 1)

@@ -8,9 +8,10 @@ from pathlib import Path
 
 import pytest
 from joined_file import Table, contents_in, ids_of, runs_of
+from packets import packets_in
 from run_recordings import MOMENT, Record, end, frames, one, program, records_in, run_at
 from support import BPFREC, judge, judge_quietly, outcome
-from whole_file import TIME, packets_in
+from whole_file import TIME
 from whole_file_trials import judge_made, seconds_of
 
 WANTED = {"bin/bpfrec": "make build"}

@@ -6,9 +6,9 @@ from typing import Optional
 import pytest
 from frames import packet_of
 from joined_file import Table
+from packets import packets_in
 from run_recordings import MOMENT, end, frames, one, program, run_at
 from support import judge
-from whole_file import packets_in
 from whole_file_trials import chapter11, judge_joined, seconds_of, text_of
 
 WANTED = {"bin/bpfrec": "make build"}

@@ -10,9 +10,9 @@ import pytest
 from drawn_recording import DrawnRecording, drawn_insns
 from frames import FRAMES, body_of, packet_of
 from joined_file import Table, joined_file
+from packets import frames_in, packets_in
 from reading import SAMPLES
 from support import BPFREC, judge, judge_quietly, outcome
-from whole_file import frames_in, packets_in
 from whole_file_parts import recorded
 from whole_file_trials import chapter11, judge_joined, judge_made, judge_same, seconds_of, text_of, write_inputs
 

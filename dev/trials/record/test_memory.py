@@ -4,6 +4,8 @@ import subprocess
 from pathlib import Path
 
 import pytest
+from frames import packet_of
+from packets import packets_in
 from recorder import MANY, READING_MEMORY, make_feed, read_within, record, write_settings
 from support import BPFREC, judge, judge_quietly, outcome
 
@@ -66,16 +68,10 @@ def test_export_takes_little_memory(work: Path, whole: Path) -> None:
 
 def without_checksums(recording: bytes) -> bytes:
     """The same packets without their data checksums, as they were written once."""
-    old, at = bytearray(), 0
-    while at < len(recording):
-        length = int.from_bytes(recording[at + 4 : at + 8], "little")
-        header = bytearray(recording[at : at + 22])
-        header[4:8] = (length - 4).to_bytes(4, "little")
-        header[14] = 0
-        words = (int.from_bytes(header[it : it + 2], "little") for it in range(0, 22, 2))
-        old += header + (sum(words) % 65_536).to_bytes(2, "little") + recording[at + 24 : at + length - 4]
-        at += length
-    return bytes(old)
+    return b"".join(
+        packet_of(channel, data, recording[at + 13], kind, counter, False)
+        for at, channel, kind, counter, data in packets_in(recording)
+    )
 
 
 def test_upgrade_takes_little_memory(work: Path, whole: Path) -> None:

@@ -13,6 +13,7 @@ from pathlib import Path
 import pytest
 from aged_packets import FILTERS, Channel, Item, drawn_items, feed_of_items, groups, recording
 from frames import record_of
+from packets import packets_in
 from recorder import record
 from support import BPFREC, SECONDS, judge, judge_quietly, outcome, pipe_at, run, wait_for
 
@@ -152,10 +153,7 @@ def has_size(path: Path, size: int) -> bool:
 
 def end_of(whole: bytes, packets: int) -> int:
     """Where so many packets end, behind that of the program."""
-    at = 0
-    for _ in range(packets + 1):
-        at += int.from_bytes(whole[at + 4 : at + 8], "little")
-    return at
+    return [*(at for at, *_ in packets_in(whole)), len(whole)][packets + 1]
 
 
 WRONG = {

@@ -4,17 +4,27 @@ with is written by hand (dev/trials/lib/frames.py), with no reader of packets.""
 
 from __future__ import annotations
 
-import struct
 from pathlib import Path
 from typing import NamedTuple
 
 import pytest
-from frames import COMPUTER, FRAMES, HEADER_LENGTH, body_of, feed_of, packet_of, sum_of
+from frames import (
+    COMPUTER,
+    FRAMES,
+    HEADER_LENGTH,
+    body_of,
+    end_packet,
+    feed_of,
+    insns_of,
+    packet_of,
+    program_data,
+    sum_of,
+)
 from recorder import record, write_settings
 from support import BPFREC, KEEPS_ALL, judge, outcome, run
 
 WANTED = {"bin/bpfrec": "make build"}
-INSN = struct.pack("<HBBI", 6, 0, 0, 1)
+INSN = insns_of((6, 0, 0, 1))
 FRAME = bytes.fromhex("ffffffffffff020000000001080600010203")
 
 
@@ -51,8 +61,7 @@ def with_version(packet: bytes, version: int) -> bytes:
 def expected(values: Values, frames: list[tuple[int, int, bytes]]) -> bytes:
     """The recording of these frames: as many in a packet as the limit has room for."""
     channel, word = values.channel, values.net << 16 | values.speed << 24
-    record_of_program = struct.pack("<I4sHHIQHH", 0, b"CBPR", 1, channel, 0, 0, 1, 0) + INSN
-    packets = [packet_of(0, record_of_program, 0, COMPUTER, frames[0][0], True)]
+    packets = [packet_of(0, program_data(channel, 0, INSN), 0, COMPUTER, frames[0][0], True)]
     held: list[tuple[int, int, bytes]] = []
 
     def close() -> None:
@@ -66,8 +75,7 @@ def expected(values: Values, frames: list[tuple[int, int, bytes]]) -> bytes:
         # Bit 31 of a frame's word is that of a wrong check sequence, mark 1, and bit 30 of a frame error, mark 2.
         held.append((counter, word | (marks & 1) << 31 | (marks >> 1) << 30, frame))
     close()
-    end = struct.pack("<I4sHHQQ", 0, b"CBPR", 2, channel, len(frames), len(frames))
-    packets.append(packet_of(0, end, 1, COMPUTER, frames[-1][0], True))
+    packets.append(end_packet(channel, len(frames), counter=frames[-1][0]))
     return b"".join(with_version(it, values.version) for it in packets)
 
 

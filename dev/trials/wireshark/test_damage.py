@@ -9,7 +9,7 @@ from pathlib import Path
 
 import pytest
 from damage import damaged_sample, nested
-from frames import FRAMES, body_of, end_packet, frames_packet, header_of, packet_of, program_packet, sum_of
+from frames import FRAMES, body_of, end_packet, frames_packet, header_of, packet_of, program_packet
 from reading import SAMPLES, SEED, recording_of_three
 from rows import PLUGIN, expected_rows, printed, rows_of, tshark
 from support import BPFREC, MEBIBYTE, judge, judge_quietly, outcome, run, sums
@@ -110,11 +110,9 @@ def header_that_claims(length: int, data_len: int, kind: int, channel: int) -> b
 
 
 def hostile() -> dict[str, bytes]:
-    insns = struct.pack("<HBBI", 0x15, 0, 0, 7) * 65_535
-    long_program = struct.pack("<I4sHHIQHH", 0, b"CBPR", 1, 1, 0, 0, 65_535, 0) + insns
     short = [(5, 0, b""), (6, 1 << 28, bytes(10)), (7, 0, bytes(17)), (8, 3 << 28, bytes(60))]
     return {
-        "long_program": packet_of(0, long_program, 0, 0, 0, True),
+        "long_program": program_packet(1, 0, (0x15, 0, 0, 7), count=65_535),
         "empty_frames": program_packet(1, 0) + packet_of(1, body_of(short), 0, FRAMES, 5, True),
         "no_frames": program_packet(1, 0) + packet_of(1, body_of([]), 0, FRAMES, 5, True),
         "sync_patterns": program_packet(1, 0) + b"\x25\xeb" * 200_000 + end_packet(1, 0),
@@ -144,9 +142,8 @@ def test_many_claims_end_in_seconds(work: Path) -> None:
 def test_a_claim_of_four_gigabytes_takes_no_memory(work: Path) -> None:
     """A packet that claims four gigabytes, which are there, takes no memory for them."""
     path, length = work / "sparse.ch11", 0xFFFFFFF0
-    head = struct.pack("<HHIIBBBBIH", 0xEB25, 5, length, 100, 8, 0, 0, 0x19, 1, 0)
     with open(path, "wb") as file:
-        file.write(head + sum_of(head, 2).to_bytes(2, "little"))
+        file.write(header_of(5, (length, 100), 0, 0x19, 1, False))
         file.seek(length)
         file.write(program_packet(1, 0))
     judge_memory(work, path, 2)

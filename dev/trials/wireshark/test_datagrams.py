@@ -10,10 +10,10 @@ import pytest
 from bpfrec_tools.publish.datagrams import Datagrams
 from frames import FRAMES
 from ground import drawn_flight, stream_of
+from packets import frames_in
 from pcapng import MICROSECONDS, capture_head, captured
 from rows import printed
 from support import judge
-from whole_file import frames_in
 from whole_file_parts import Part, parts_of
 
 WANTED = {"tshark": "tshark"}

@@ -3,13 +3,23 @@
 import random
 import re
 import shutil
-import struct
 import subprocess
 import zlib
 from pathlib import Path
 
 import pytest
-from frames import COMPUTER, FRAMES, body_of, numbered, packet_of, program_packet, records, with_check_sequence
+from frames import (
+    COMPUTER,
+    FRAMES,
+    body_of,
+    insns_of,
+    numbered,
+    packet_of,
+    program_data,
+    program_packet,
+    records,
+    with_check_sequence,
+)
 from pcapng import frames_in, times_of
 from reading import SEED, recording_of_three
 from recorder import RECORDINGS, extracted
@@ -275,9 +285,8 @@ def lines_shown(work: Path, recording: Path) -> tuple[str, list[str]]:
 def program_of(listing: str) -> bytes:
     """The packet of the program of a listing."""
     numbers = [int(it) for it in re.findall(r"\d+", listing)]
-    insns = b"".join(struct.pack("<HBBI", *numbers[at : at + 4]) for at in range(1, len(numbers), 4))
-    data = struct.pack("<I4sHHIQHH", 0, b"CBPR", 1, 7, 2, 0, len(insns) // 8, 0) + insns
-    return packet_of(0, data, 0, COMPUTER, 0, True)
+    insns = insns_of(*(tuple(numbers[at : at + 4]) for at in range(1, len(numbers), 4)))
+    return packet_of(0, program_data(7, 2, insns), 0, COMPUTER, 0, True)
 
 
 def test_programs_are_shown_as_dis_prints_them(work: Path) -> None:

@@ -20,14 +20,13 @@ from expected_facts import (
     value_of,
 )
 from frames import FRAMES
+from packets import frames_in as frames_of_data
 from pcapng import frames_in
 from reading import SEED, recording_of_three
 from recorder import RECORDINGS
 from rows import expected_rows, printed, saved
 from support import BPFREC, CONVERT, EXPORT, judge, judge_quietly, run
-from whole_file import Origin
-from whole_file import frames_in as frames_of_data
-from whole_file import whole_file
+from whole_file import Origin, whole_file
 from whole_file_parts import ORIGIN, SAMPLE_SETUP, parts_of, sample_recording
 
 WANTED = {"bin/bpfrec": "make build", "tshark": "tshark"}
