@@ -10,7 +10,7 @@ from support import missing
 
 @pytest.fixture(scope="session")
 def units(tmp_path_factory: pytest.TempPathFactory) -> Units:
-    if lacking := missing({"gcc": "gcc", "pcap-config": "libpcap-dev"}):
+    if lacking := missing(("gcc", "pcap-config")):
         pytest.skip(f"it needs {lacking[0]}")
     return Units(tmp_path_factory.mktemp("units"))
 

@@ -1,5 +1,5 @@
 #!/usr/bin/env python3
-"""Checks that dev/package/packages.txt has each package that a file of checks or trials names in its table WANTED."""
+"""Checks that dev/package/packages.txt has the package of each program that checks or trials name as WANTED."""
 import argparse
 import re
 import sys
@@ -8,14 +8,17 @@ from pathlib import Path
 
 ROOT = Path(__file__).resolve().parents[2]
 LIST = ROOT / "dev" / "package" / "packages.txt"
+sys.path.insert(0, str(ROOT / "dev/trials/lib"))
+from support import BUILT, PACKAGES
 
 
 def wanted() -> Iterator[tuple[str, Path]]:
-    """Each package that a file of checks or trials wants, with the file."""
+    """The package of each program that a file wants, with the file."""
     for file in sorted(it for folder in ("dev", "host", "capture") for it in (ROOT / folder).rglob("*.py")):
-        found = re.search(r"^WANTED = \{(.*?)\}", file.read_text(), re.MULTILINE | re.DOTALL)
-        for package in re.findall(r': "([a-z0-9.+-]+)"', found[1]) if found else []:
-            yield package, file.relative_to(ROOT)
+        found = re.search(r"^WANTED = \((.*?)\)", file.read_text(), re.MULTILINE | re.DOTALL)
+        for name in re.findall(r'"(.+?)"', found[1]) if found else []:
+            if name not in BUILT:
+                yield PACKAGES.get(name, name), file.relative_to(ROOT)
 
 
 def main() -> int:

@@ -15,16 +15,8 @@ from pathlib import Path
 from typing import NamedTuple
 
 ROOT = Path(__file__).resolve().parents[2]
-# The packages of Debian that have these tools.
-WANTED = {
-    "black": "black",
-    "isort": "isort",
-    "flake8": "flake8",
-    "mypy": "mypy",
-    "shellcheck": "shellcheck",
-    "clang-format": "clang-format",
-    "clang-tidy": "clang-tidy",
-}
+# Tools that Debian's packages are named after.
+WANTED = ("black", "isort", "flake8", "mypy", "shellcheck", "clang-format", "clang-tidy")
 # The checks beside these tools.
 OWN = ["prose", "page", "packages", "lemmas"]
 NAMES = [*WANTED, *OWN]
@@ -83,7 +75,7 @@ def commands(tool: Tool) -> list[list[str]]:
 def passes(tool: Tool) -> bool:
     """Runs a tool, and tells whether it found nothing."""
     if tool.name in WANTED and not shutil.which(tool.name):
-        print(f"WRONG: {tool.name} is missing: apt-get install {WANTED[tool.name]}")
+        print(f"WRONG: {tool.name} is missing: apt-get install {tool.name}")
         return False
     wrong = []
     for words in commands(tool):

@@ -12,7 +12,7 @@ from frames import counters, feed_of
 from pcapng import frame_of, times_of, whole
 from support import CONVERT, judge, judge_quietly, outcome, run
 
-WANTED = {"tshark": "tshark"}
+WANTED = ("tshark",)
 DAMAGED = 150
 FRAMES = 200
 ONE = ("1764590400.250000000", 0, None)

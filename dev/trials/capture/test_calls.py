@@ -26,7 +26,7 @@ from support import (
     wait_for,
 )
 
-WANTED = {"bin/bpfrec": "make build", "bin/capture": "make build", "ip": "iproute2", "cc": "gcc"}
+WANTED = ("bin/bpfrec", "bin/capture", "ip", "cc")
 pytestmark = [pytest.mark.timed, pytest.mark.usefixtures("namespace")]
 # What a capture calls while interfaces go down, leave and come back, and feeds and listings are exchanged.
 CALLED = """poll read write recvfrom openat close newfstatat dup fcntl pipe2 ftruncate uname bind getsockname

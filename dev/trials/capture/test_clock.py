@@ -31,13 +31,7 @@ from support import (
 )
 from time_marks import begin, frames_of, judge_ended, judge_moments, judge_order, marks_of
 
-WANTED = {
-    "bin/bpfrec": "make build",
-    "bin/capture": "make build",
-    "ip": "iproute2",
-    "cc": "gcc",
-    "pcap-config": "libpcap-dev",
-}
+WANTED = ("bin/bpfrec", "bin/capture", "ip", "cc", "pcap-config")
 pytestmark = [pytest.mark.timed, pytest.mark.usefixtures("namespace")]
 STEP = -3600 * SECOND
 PPM = 500

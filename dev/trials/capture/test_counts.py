@@ -15,7 +15,7 @@ from frames import numbers
 from namespace import send_numbered
 from support import CAPTURE, Reader, Running, judge, judge_quietly, pipe_at, wait_for
 
-WANTED = {"bin/bpfrec": "make build", "bin/capture": "make build", "ip": "iproute2"}
+WANTED = ("bin/bpfrec", "bin/capture", "ip")
 pytestmark = [pytest.mark.timed, pytest.mark.usefixtures("namespace")]
 SENT = 300
 COUNTED = ("frames", "bytes", "dropped", "missed", "skipped", "waited")

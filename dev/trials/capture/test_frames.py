@@ -30,13 +30,7 @@ from support import (
     wait_for,
 )
 
-WANTED = {
-    "bin/bpfrec": "make build",
-    "bin/capture": "make build",
-    "ip": "iproute2",
-    "tshark": "tshark",
-    "dumpcap": "wireshark-common",
-}
+WANTED = ("bin/bpfrec", "bin/capture", "ip", "tshark", "dumpcap")
 pytestmark = [pytest.mark.timed, pytest.mark.usefixtures("namespace")]
 FRAMES_OF_A_ROUND = 500
 MANY_PROCESSORS = 4

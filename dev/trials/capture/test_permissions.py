@@ -26,7 +26,7 @@ from support import (
     wait_for,
 )
 
-WANTED = {"bin/bpfrec": "make build", "bin/capture": "make build", "ip": "iproute2", "objdump": "binutils"}
+WANTED = ("bin/bpfrec", "bin/capture", "ip", "objdump")
 pytestmark = [pytest.mark.timed, pytest.mark.usefixtures("namespace")]
 # Capabilities, as bits: CAP_NET_RAW; CAP_DAC_OVERRIDE and CAP_DAC_READ_SEARCH.
 NET_RAW, READ_FILES = 1 << 13, 1 << 1 | 1 << 2

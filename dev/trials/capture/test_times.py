@@ -10,7 +10,7 @@ from namespace import send, send_numbered
 from recordings import folder_of
 from support import CAPTURE, Reader, Running, judge, origin_told, pipe_at, run
 
-WANTED = {"bin/capture": "make build", "ip": "iproute2", "dumpcap": "wireshark-common", "tshark": "tshark"}
+WANTED = ("bin/capture", "ip", "dumpcap", "tshark")
 pytestmark = [pytest.mark.timed, pytest.mark.usefixtures("namespace")]
 SINGLE, COUNT = 200, 2_000
 TICK = 100

@@ -10,7 +10,7 @@ import pytest
 from namespace import send_numbered, set_link
 from support import BPFREC, ROOT, Running, judge, missing, outcome, run, wait_for
 
-WANTED = {"bin/bpfrec": "make build"}
+WANTED = ("bin/bpfrec",)
 README = (ROOT / "README.md").read_text()
 UNPROVED = "bin/bpfrec-unproved"
 COUNT = 100
@@ -48,7 +48,7 @@ def test_the_first_recording_prints_what_readme_has(place: Path) -> None:
 
 
 def test_tshark_shows_the_first_recording_as_readme_says(place: Path) -> None:
-    if missing({"tshark": "tshark"}):
+    if missing(("tshark",)):
         pytest.skip("it needs tshark")
     run("bash", "-c", first_recording()[0], cwd=place)
     command = re.search(r"^- `(tshark .*?)`", README, re.MULTILINE)
@@ -59,7 +59,7 @@ def test_tshark_shows_the_first_recording_as_readme_says(place: Path) -> None:
 
 def test_the_commands_of_an_interface_run(place: Path, namespace: None) -> None:
     """As root: `sudo` is left out."""
-    if missing({"bin/capture": "make build", "ip": "iproute2"}) or os.geteuid() != 0:
+    if missing(("bin/capture", "ip")) or os.geteuid() != 0:
         pytest.skip("it needs root, iproute2 and bin/capture")
     found = re.search(r"```sh\nmake capture\nsudo (BPFREC=.*)\n(.*)\n(.*)\n```", README)
     judge("README says how the program is named", NAMES in README)

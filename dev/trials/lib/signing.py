@@ -11,8 +11,6 @@ from recordings import begin, has_facts
 from support import Running, judge, run, sums, wait_for
 
 SIGNER, OTHER = "fc1@range.example", "fc2@range.example"
-# What signing needs, for WANTED.
-NEEDED = {"ssh-keygen": "openssh-client", "ssh-agent": "openssh-client"}
 
 
 def made_key(work: Path, name: str, passphrase: str = "") -> Path:

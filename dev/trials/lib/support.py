@@ -12,7 +12,7 @@ import signal
 import subprocess
 import threading
 import time
-from collections.abc import Callable, Sequence
+from collections.abc import Callable, Iterable, Sequence
 from pathlib import Path
 from typing import Any, Optional, TypeVar
 
@@ -26,8 +26,24 @@ LIVE, CONVERT, INFO, EXPORT, SALVAGE, PREFLIGHT = (
     TOOLS / name for name in ("live", "convert", "info", "export", "salvage", "preflight")
 )
 CHECK, CHECK_SUMS = TOOLS / "check", ROOT / "host/second/check_sums"
-# What a trial may want that a build makes.
+# What a trial may want that a build makes, and the packages of programs that are named otherwise.
 BUILT = {"bin/bpfrec": BPFREC, "bin/capture": CAPTURE}
+PACKAGES = {
+    **dict.fromkeys(("capinfos", "dumpcap", "editcap", "mergecap"), "wireshark-common"),
+    "cc": "gcc",
+    "dpkg-deb": "dpkg",
+    "import": "imagemagick",
+    "ip": "iproute2",
+    "man": "man-db",
+    "mkfs.ext4": "e2fsprogs",
+    "objdump": "binutils",
+    "pcap-config": "libpcap-dev",
+    "scapy": "python3-scapy",
+    "setcap": "libcap2-bin",
+    "setpriv": "util-linux",
+    **dict.fromkeys(("ssh-agent", "ssh-keygen"), "openssh-client"),
+    "Xvfb": "xvfb",
+}
 # The modules and C files that trials share, and the scripts of hours.
 LIBRARY, LONG = ROOT / "dev/trials/lib", ROOT / "dev/trials/long"
 KEEPS_ALL = "1,6 0 0 1,"
@@ -53,11 +69,11 @@ def judge_quietly(what: str, holds: object, details: object = "") -> None:
         judge(what, holds, details)
 
 
-def missing(wanted: dict) -> list:
+def missing(wanted: Iterable[str]) -> list[str]:
     """What is not here of programs and of what a build makes, each of them with its package or with `make build`."""
     lacking = [name for name in wanted if not (BUILT[name].exists() if name in BUILT else shutil.which(name))]
-    packages = sorted({wanted[name] for name in lacking if name not in BUILT})
-    found = [f"{name} ({wanted[name]})" for name in lacking if name in BUILT]
+    packages = sorted({PACKAGES.get(name, name) for name in lacking if name not in BUILT})
+    found = [f"{name} (make build)" for name in lacking if name in BUILT]
     return found + ([f"{' '.join(packages)} (make packages)"] if packages else [])
 
 

@@ -49,8 +49,8 @@ def pytest_collection_modifyitems(items: list[pytest.Item]) -> None:
 
 @pytest.fixture(autouse=True, scope="module")
 def at_hand(request: pytest.FixtureRequest) -> None:
-    """Leaves a trial out that needs what isn't here, by the table WANTED of its file."""
-    lacking = support.missing(getattr(request.module, "WANTED", {}))
+    """Leaves a trial out that needs what isn't here, by what its file names as WANTED."""
+    lacking = support.missing(getattr(request.module, "WANTED", ()))
     if lacking:
         pytest.skip(f"it needs {', '.join(lacking)}")
 

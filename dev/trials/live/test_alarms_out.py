@@ -19,7 +19,7 @@ from namespace import send_together
 from recordings import Traffic, begin, extracted, is_approved, judge_parts, nothing_left, processes_of, settings_of
 from support import LIVE, PREFLIGHT, Running, judge, judge_quietly, outcome, wait_for
 
-WANTED = {"bin/bpfrec": "make build", "bin/capture": "make build", "ip": "iproute2"}
+WANTED = ("bin/bpfrec", "bin/capture", "ip")
 pytestmark = [pytest.mark.timed, pytest.mark.usefixtures("namespace")]
 SEED, KILLS = 20_261_128, 12
 BEGUN = "begins|clock|-|the clock is not synchronised|"

@@ -9,13 +9,7 @@ from frames import numbers_in, records
 from recordings import YES, extracted, facts_of, parts_of, recordings, settings_of
 from support import LIVE, MILLISECOND, SECOND, Running, judge, nanoseconds
 
-WANTED = {
-    "bin/bpfrec": "make build",
-    "bin/capture": "make build",
-    "ip": "iproute2",
-    "cc": "gcc",
-    "pcap-config": "libpcap-dev",
-}
+WANTED = ("bin/bpfrec", "bin/capture", "ip", "cc", "pcap-config")
 pytestmark = [pytest.mark.timed, pytest.mark.usefixtures("namespace")]
 YEAR = 31_557_600
 

@@ -25,7 +25,7 @@ from recordings import (
 )
 from support import BPFREC, CAPTURE, LIVE, Running, judge, judge_quietly, wait_for
 
-WANTED = {"bin/bpfrec": "make build", "bin/capture": "make build", "ip": "iproute2"}
+WANTED = ("bin/bpfrec", "bin/capture", "ip")
 pytestmark = [pytest.mark.timed, pytest.mark.usefixtures("namespace")]
 # So many drawn moments, and so long what is left may run.
 DRAWN, PATIENCE = 3, 8

@@ -25,13 +25,7 @@ from recordings import (
 )
 from support import BPFREC, MEBIBYTE, SECOND, SECONDS, Running, judge, judge_quietly, outcome, present, run, wait_for
 
-WANTED = {
-    "bin/bpfrec": "make build",
-    "bin/capture": "make build",
-    "ip": "iproute2",
-    "mkfs.ext4": "e2fsprogs",
-    "mount": "mount",
-}
+WANTED = ("bin/bpfrec", "bin/capture", "ip", "mkfs.ext4", "mount")
 pytestmark = [pytest.mark.timed, pytest.mark.usefixtures("namespace")]
 
 # ---- lost power

@@ -11,13 +11,7 @@ from namespace import send_together
 from recordings import begin, nothing_left
 from support import judge, judge_quietly, run, wait_for
 
-WANTED = {
-    "bin/bpfrec": "make build",
-    "bin/capture": "make build",
-    "ip": "iproute2",
-    "cc": "gcc",
-    "ssh-keygen": "openssh-client",
-}
+WANTED = ("bin/bpfrec", "bin/capture", "ip", "cc", "ssh-keygen")
 pytestmark = pytest.mark.usefixtures("namespace")
 
 # Facts take the place of earlier ones: the new ones are on the disk before, and the name is behind.

@@ -14,7 +14,7 @@ from namespace import send_together
 from recordings import YES, Traffic, begin, facts_of, has_facts, nothing_left, recordings, settings_of
 from support import BPFREC, KEEPS_ALL, LIVE, ROOT, Running, judge, judge_quietly, present, run, wait_for
 
-WANTED = {"bin/bpfrec": "make build", "bin/capture": "make build", "ip": "iproute2"}
+WANTED = ("bin/bpfrec", "bin/capture", "ip")
 pytestmark = [pytest.mark.timed, pytest.mark.usefixtures("namespace")]
 KEYS = """facts recording host program state begun clock origins interfaces settings spans filters counts losses report audit
 status""".split()

@@ -24,7 +24,7 @@ from recordings import Traffic, begin, extracted, facts_of, has_open, is_approve
 from support import BPFREC, EXPORT, TOOLS, judge, judge_quietly, outcome, run, wait_for
 from whole_file_parts import ORIGIN
 
-WANTED = {"bin/bpfrec": "make build", "bin/capture": "make build", "ip": "iproute2", "tshark": "tshark"}
+WANTED = ("bin/bpfrec", "bin/capture", "ip", "tshark")
 pytestmark = [pytest.mark.usefixtures("namespace")]
 FOLLOW = TOOLS / "follow"
 SECONDS = 60

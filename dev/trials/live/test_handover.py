@@ -18,7 +18,7 @@ from namespace import make_many_pairs, socket_into, wait_until_up
 from recordings import YES, nothing_left, parts_of, recordings
 from support import LIVE, Running, judge, judge_quietly, wait_for
 
-WANTED = {"bin/bpfrec": "make build", "bin/capture": "make build", "ip": "iproute2"}
+WANTED = ("bin/bpfrec", "bin/capture", "ip")
 pytestmark = pytest.mark.timed
 COUNTS = (1, 2, 12, 64)
 MOMENTS = int(os.environ.get("HANDOVER_MOMENTS", "2"))

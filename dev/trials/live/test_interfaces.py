@@ -32,14 +32,7 @@ from support import (
     wait_for,
 )
 
-WANTED = {
-    "bin/bpfrec": "make build",
-    "bin/capture": "make build",
-    "ip": "iproute2",
-    "cc": "gcc",
-    "pcap-config": "libpcap-dev",
-    "setcap": "libcap2-bin",
-}
+WANTED = ("bin/bpfrec", "bin/capture", "ip", "cc", "pcap-config", "setcap")
 pytestmark = [pytest.mark.timed, pytest.mark.usefixtures("namespace")]
 GONE = "capture: rx0: the interface is gone, and is taken again once it is back\n"
 BACK = "capture: rx0: it is back\n"

@@ -27,7 +27,7 @@ from recordings import (
 )
 from support import BPFREC, CAPTURE, Running, judge, judge_quietly, outcome, present, wait_for
 
-WANTED = {"bin/bpfrec": "make build", "bin/capture": "make build", "ip": "iproute2"}
+WANTED = ("bin/bpfrec", "bin/capture", "ip")
 pytestmark = [pytest.mark.timed, pytest.mark.usefixtures("namespace")]
 PAUSE, DRAWN = 0.5, 2
 WANTED_KILLED = [(it, "failed", None) for it in ("rx0", "rx1")]

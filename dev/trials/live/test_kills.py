@@ -26,7 +26,7 @@ from recordings import (
 )
 from support import BPFREC, CAPTURE, LIVE, Running, judge, judge_quietly, outcome, wait_for
 
-WANTED = {"bin/bpfrec": "make build", "bin/capture": "make build", "ip": "iproute2"}
+WANTED = ("bin/bpfrec", "bin/capture", "ip")
 pytestmark = [pytest.mark.timed, pytest.mark.usefixtures("namespace")]
 TURNS, AT_ONCE, PATIENCE, PAUSE = 100, 4, 10, 0.4
 # A blow before this many seconds comes as the run starts, and later ones are counted from when it captures.

@@ -13,7 +13,7 @@ from namespace import long_frames, make_many_pairs, send, send_numbered, send_to
 from recordings import begin, extracted, facts_of, is_recording, process_of, recordings, write_settings
 from support import BPFREC, CAPTURE, LIVE, MEBIBYTE, Reader, Running, judge, pipe_at, run, wait_for
 
-WANTED = {"bin/bpfrec": "make build", "bin/capture": "make build", "ip": "iproute2"}
+WANTED = ("bin/bpfrec", "bin/capture", "ip")
 pytestmark = [pytest.mark.timed, pytest.mark.usefixtures("namespace")]
 PAIRS = 64
 # Of a frame with an odd number, by the last of its eight bytes.

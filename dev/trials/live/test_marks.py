@@ -30,7 +30,7 @@ from recordings import (
 from schemas import faults, schema_of
 from support import EXPORT, LIVE, TOOLS, Running, judge, judge_quietly, outcome, present, run, wait_for
 
-WANTED = {"bin/bpfrec": "make build", "bin/capture": "make build", "ip": "iproute2", "tcpdump": "tcpdump"}
+WANTED = ("bin/bpfrec", "bin/capture", "ip", "tcpdump")
 pytestmark = [pytest.mark.usefixtures("namespace")]
 FOLLOW = TOOLS / "follow"
 # Half a second, in ticks.

@@ -11,7 +11,7 @@ from observed import OBSERVED
 from recordings import RUN, YES, nothing_left, recordings, write_settings
 from support import Running, judge
 
-WANTED = {"bin/bpfrec": "make build", "bin/capture": "make build", "ip": "iproute2"}
+WANTED = ("bin/bpfrec", "bin/capture", "ip")
 pytestmark = [pytest.mark.timed, pytest.mark.usefixtures("namespace")]
 
 

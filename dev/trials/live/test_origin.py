@@ -12,7 +12,7 @@ from namespace import send_numbered
 from recordings import begin, extracted, facts_of
 from support import CAPTURE, LIVE, MILLISECOND, SECOND, Running, judge, judge_quietly, nanoseconds, wait_for
 
-WANTED = {"bin/bpfrec": "make build", "bin/capture": "make build", "ip": "iproute2", "cc": "gcc"}
+WANTED = ("bin/bpfrec", "bin/capture", "ip", "cc")
 pytestmark = [pytest.mark.timed, pytest.mark.usefixtures("namespace")]
 # The time after which counters begin at 0 again.
 TURN = 2**48 * 100

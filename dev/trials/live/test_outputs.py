@@ -31,7 +31,7 @@ from recordings import (
 )
 from support import LIVE, Running, fill_pipe, judge, judge_quietly, present, wait_for
 
-WANTED = {"bin/bpfrec": "make build", "bin/capture": "make build", "ip": "iproute2", "cc": "gcc"}
+WANTED = ("bin/bpfrec", "bin/capture", "ip", "cc")
 pytestmark = [pytest.mark.timed, pytest.mark.usefixtures("namespace")]
 MANY = 20_000
 F_SETPIPE_SZ = 1031

@@ -24,13 +24,7 @@ from recordings import (
 )
 from support import BPFREC, LIVE, SECOND, Running, judge, judge_quietly, present, run, wait_for
 
-WANTED = {
-    "bin/bpfrec": "make build",
-    "bin/capture": "make build",
-    "ip": "iproute2",
-    "cc": "gcc",
-    "pcap-config": "libpcap-dev",
-}
+WANTED = ("bin/bpfrec", "bin/capture", "ip", "cc", "pcap-config")
 pytestmark = [pytest.mark.timed, pytest.mark.usefixtures("namespace")]
 
 # ---- recordings that follow one another

@@ -12,7 +12,7 @@ from recordings import RUN, begin, extracted, nothing_left, processes_of, settin
 from service import Manager
 from support import LIVE, Reader, Running, judge, pipe_at, wait_for
 
-WANTED = {"bin/bpfrec": "make build", "bin/capture": "make build", "ip": "iproute2"}
+WANTED = ("bin/bpfrec", "bin/capture", "ip")
 pytestmark = [pytest.mark.timed, pytest.mark.usefixtures("namespace")]
 COUNT = 1_000
 

@@ -22,13 +22,7 @@ from observed import OBSERVED
 from recordings import RUN, YES, Traffic, write_settings
 from support import BPFREC, MEBIBYTE, Running, judge, judge_quietly, outcome, run
 
-WANTED = {
-    "bin/bpfrec": "make build",
-    "bin/capture": "make build",
-    "ip": "iproute2",
-    "mkfs.ext4": "e2fsprogs",
-    "mount": "mount",
-}
+WANTED = ("bin/bpfrec", "bin/capture", "ip", "mkfs.ext4", "mount")
 pytestmark = [pytest.mark.timed, pytest.mark.usefixtures("namespace")]
 CUTS, LIMIT = 50, 16_424
 

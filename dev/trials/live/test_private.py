@@ -10,7 +10,7 @@ from namespace import long_frames, send_numbered, send_together
 from recordings import YES, begin, facts_of, nothing_left, process_of, settings_of
 from support import BPFREC, CAPTURE, Reader, Running, judge, pipe_at, wait_for
 
-WANTED = {"bin/bpfrec": "make build", "bin/capture": "make build", "ip": "iproute2", "mount": "mount"}
+WANTED = ("bin/bpfrec", "bin/capture", "ip", "mount")
 pytestmark = [pytest.mark.timed, pytest.mark.usefixtures("namespace")]
 
 

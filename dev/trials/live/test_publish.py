@@ -45,7 +45,7 @@ from whole_file import SETUP, TIME, Origin, Setup
 from whole_file_clock import SECOND
 from whole_file_parts import ORIGIN, SAMPLE_SETUP, parts_of, recorded, sample_recording
 
-WANTED = {"bin/bpfrec": "make build", "bin/capture": "make build", "ip": "iproute2"}
+WANTED = ("bin/bpfrec", "bin/capture", "ip")
 pytestmark = [pytest.mark.usefixtures("namespace")]
 PAGE = ROOT / "docs/user/formats/whole_file.md"
 

@@ -31,7 +31,7 @@ from support import LIVE, TOOLS, Running, judge, judge_quietly, present, wait_fo
 from whole_file import SETUP, TIME
 from whole_file_parts import parts_of
 
-WANTED = {"bin/bpfrec": "make build", "bin/capture": "make build", "ip": "iproute2"}
+WANTED = ("bin/bpfrec", "bin/capture", "ip")
 pytestmark = [pytest.mark.usefixtures("namespace")]
 CONTROL = TOOLS / "tell"
 

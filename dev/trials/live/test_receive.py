@@ -20,7 +20,7 @@ from support import BPFREC, judge, judge_quietly, outcome, wait_for
 from whole_file import SETUP
 from whole_file_parts import parts_of
 
-WANTED = {"bin/bpfrec": "make build", "ip": "iproute2"}
+WANTED = ("bin/bpfrec", "ip")
 pytestmark = [pytest.mark.usefixtures("namespace")]
 
 

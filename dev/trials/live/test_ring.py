@@ -26,7 +26,7 @@ from recordings import (
 )
 from support import BPFREC, LIVE, ROOT, Running, judge, judge_quietly, run, wait_for
 
-WANTED = {"bin/bpfrec": "make build", "bin/capture": "make build", "ip": "iproute2", "mount": "mount"}
+WANTED = ("bin/bpfrec", "bin/capture", "ip", "mount")
 pytestmark = [pytest.mark.timed, pytest.mark.usefixtures("namespace")]
 REMOVED = re.compile(r"bpfrec live: (\S+) was removed: (.*)\n")
 

@@ -14,7 +14,7 @@ from recorder import extracted
 from recordings import YES, judge_parts, nothing_left, parts_of, recordings, settings_of, write_settings
 from support import BPFREC, DROPS_ALL, EXPORT, KEEPS_ALL, LIVE, SECONDS, Running, judge, judge_quietly, outcome, sums
 
-WANTED = {"bin/bpfrec": "make build", "bin/capture": "make build", "ip": "iproute2", "mount": "mount"}
+WANTED = ("bin/bpfrec", "bin/capture", "ip", "mount")
 pytestmark = [pytest.mark.timed, pytest.mark.usefixtures("namespace")]
 FRAMES = 5_000
 

@@ -20,15 +20,7 @@ from rows import printed
 from seen_frames import made, seen_in
 from support import CAPTURE, CONVERT, INFO, MILLISECOND, SECOND, Reader, Running, judge, pipe_at, run, wait_for
 
-WANTED = {
-    "bin/bpfrec": "make build",
-    "bin/capture": "make build",
-    "ip": "iproute2",
-    "cc": "gcc",
-    "pcap-config": "libpcap-dev",
-    "tshark": "tshark",
-    "editcap": "wireshark-common",
-}
+WANTED = ("bin/bpfrec", "bin/capture", "ip", "cc", "pcap-config", "tshark", "editcap")
 pytestmark = [pytest.mark.timed, pytest.mark.usefixtures("namespace")]
 FRAMES = 30
 TAI = {"scale": "TAI", "tai_offset": 37}

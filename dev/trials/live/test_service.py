@@ -15,7 +15,7 @@ from recordings import RUN, YES, begin, extracted, process_of, settings_of
 from service import Manager
 from support import BPFREC, CAPTURE, LIVE, NOBODY, ROOT, Running, judge, judge_quietly, outcome, wait_for
 
-WANTED = {"bin/bpfrec": "make build", "bin/capture": "make build", "ip": "iproute2", "setpriv": "util-linux"}
+WANTED = ("bin/bpfrec", "bin/capture", "ip", "setpriv")
 pytestmark = pytest.mark.timed
 UNIT = ROOT / "examples/bpfrec.service"
 

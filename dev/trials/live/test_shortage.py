@@ -28,7 +28,7 @@ from recordings import (
 )
 from support import LIVE, Running, judge, judge_quietly, wait_for
 
-WANTED = {"bin/bpfrec": "make build", "bin/capture": "make build", "ip": "iproute2"}
+WANTED = ("bin/bpfrec", "bin/capture", "ip")
 pytestmark = [pytest.mark.timed, pytest.mark.usefixtures("namespace")]
 WATCHES = Path("/proc/sys/fs/inotify/max_user_instances")
 

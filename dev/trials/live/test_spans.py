@@ -22,7 +22,7 @@ from recordings import (
 )
 from support import BPFREC, Running, judge, judge_quietly, outcome, present, wait_for
 
-WANTED = {"bin/bpfrec": "make build", "bin/capture": "make build", "ip": "iproute2"}
+WANTED = ("bin/bpfrec", "bin/capture", "ip")
 
 pytestmark = [pytest.mark.timed, pytest.mark.usefixtures("namespace")]
 MOST_VERSIONS, MOST_UNANSWERED = 1_024, 128

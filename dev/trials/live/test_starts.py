@@ -14,7 +14,7 @@ from recordings import RUN, YES, extracted, folder_of, is_recording, nothing_lef
 from support import LIVE, Running, judge, wait_for
 from terminal import Terminal
 
-WANTED = {"bin/bpfrec": "make build", "bin/capture": "make build", "ip": "iproute2"}
+WANTED = ("bin/bpfrec", "bin/capture", "ip")
 pytestmark = [pytest.mark.timed, pytest.mark.usefixtures("namespace")]
 
 

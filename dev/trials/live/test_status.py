@@ -20,7 +20,7 @@ from recordings import Traffic, begin, is_approved, nothing_left, process_of, se
 from served import address_in, asked, status_of
 from support import CAPTURE, LIVE, judge, judge_quietly, outcome, run, wait_for
 
-WANTED = {"bin/bpfrec": "make build", "bin/capture": "make build", "ip": "iproute2"}
+WANTED = ("bin/bpfrec", "bin/capture", "ip")
 pytestmark = [pytest.mark.timed, pytest.mark.usefixtures("namespace")]
 
 

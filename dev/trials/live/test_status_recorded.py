@@ -19,7 +19,7 @@ from recordings import Traffic, write_settings
 from scripted import Setup, Status, View, endpoint_in
 from support import BPFREC, CAPTURE, judge, outcome, present, wait_for
 
-WANTED = {"bin/bpfrec": "make build", "bin/capture": "make build", "ip": "iproute2"}
+WANTED = ("bin/bpfrec", "bin/capture", "ip")
 LIMIT = 16_424
 
 

@@ -24,7 +24,7 @@ from recordings import (
 from schemas import faults, schema_of
 from support import LIBRARY, Running, judge, judge_quietly, present, shared_library, wait_for
 
-WANTED = {"bin/bpfrec": "make build", "bin/capture": "make build", "ip": "iproute2", "cc": "gcc"}
+WANTED = ("bin/bpfrec", "bin/capture", "ip", "cc")
 pytestmark = [pytest.mark.timed, pytest.mark.usefixtures("namespace")]
 # More calls than a trial makes.
 ALL = 1_000_000

@@ -13,7 +13,7 @@ from namespace import send_numbered
 from recordings import Traffic, begin, extracted, is_approved, nothing_left, parts_of, recordings, settings_of
 from support import BPFREC, CHECK_SUMS, LIVE, Running, judge, judge_quietly, outcome, wait_for
 
-WANTED = {"bin/bpfrec": "make build", "bin/capture": "make build", "ip": "iproute2"}
+WANTED = ("bin/bpfrec", "bin/capture", "ip")
 pytestmark = [pytest.mark.timed, pytest.mark.usefixtures("namespace")]
 MADE = re.compile(r"bpfrec live: (\S+): times \d+ packets \d+ records \d+ index \d+ bytes \d+\n")
 

@@ -17,16 +17,7 @@ from namespace import socket_into
 from recordings import begin, facts_of, is_approved
 from support import ROOT, TOOLS, judge, judge_quietly, outcome, wait_for
 
-WANTED = {
-    "bin/bpfrec": "make build",
-    "bin/capture": "make build",
-    "ip": "iproute2",
-    "wireshark": "wireshark",
-    "Xvfb": "xvfb",
-    "xdotool": "xdotool",
-    "import": "imagemagick",
-    "tshark": "tshark",
-}
+WANTED = ("bin/bpfrec", "bin/capture", "ip", "wireshark", "Xvfb", "xdotool", "import", "tshark")
 pytestmark = [pytest.mark.timed, pytest.mark.usefixtures("namespace")]
 FOLLOW = TOOLS / "follow"
 PICTURES = ROOT / "bin/trials/wireshark"

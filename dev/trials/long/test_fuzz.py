@@ -5,7 +5,7 @@ import sys
 
 from support import BPFREC, LONG, judge, outcome
 
-WANTED = {"bin/bpfrec": "make build", "time": "time"}
+WANTED = ("bin/bpfrec", "time")
 SECONDS, DRAWN = 60, 600
 
 

@@ -4,7 +4,7 @@ import sys
 
 from support import LONG, judge, outcome
 
-WANTED = {"bin/bpfrec": "make build"}
+WANTED = ("bin/bpfrec",)
 SECONDS = 180
 
 

@@ -11,7 +11,7 @@ import pytest
 from bpfrec_tools import verbs
 from support import COMMAND, ROOT, judge, outcome
 
-WANTED = {"zsh": "zsh", "fish": "fish"}
+WANTED = ("zsh", "fish")
 COMPLETIONS = ROOT / "dev/package/completions"
 SECONDS = 10
 Offers = Callable[[Path, str], set[str]]

@@ -4,7 +4,7 @@ import re
 
 from support import ROOT, judge, run
 
-WANTED = {"bin/bpfrec": "make build", "bin/capture": "make build"}
+WANTED = ("bin/bpfrec", "bin/capture")
 
 
 def test_each_linked_library_is_named_with_its_licence() -> None:

@@ -6,7 +6,7 @@ from pathlib import Path
 from frames import body_of, packet_of
 from support import BPFREC, judge, run
 
-WANTED = {"bin/bpfrec": "make build"}
+WANTED = ("bin/bpfrec",)
 PATIENCE = 240
 FRAMES = 0x68
 FEW, TIMES = 2_000, 16

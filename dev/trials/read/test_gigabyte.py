@@ -12,7 +12,7 @@ from recorder import record, write_settings
 from rows import printed, seconds_of
 from support import BPFREC, judge, judge_quietly, run
 
-WANTED = {"bin/bpfrec": "make build", "tshark": "tshark"}
+WANTED = ("bin/bpfrec", "tshark")
 CHANNELS, COUNT, LENGTH = 2, 351_000, 1_514
 # One check sequence of so many is wrong.
 WRONG = 1_009

@@ -16,7 +16,7 @@ from frames import body_of, program_packet
 from reading import SAMPLES, facts_of, recording_of_three
 from support import BPFREC, CONVERT, INFO, judge, judge_quietly, outcome, run
 
-WANTED = {"bin/bpfrec": "make build", "capinfos": "wireshark-common", "tshark": "tshark"}
+WANTED = ("bin/bpfrec", "capinfos", "tshark")
 # A second in a recording's ticks.
 TICKS = 10**7
 # By chance a body without its first four bytes can be one again; of these it never is.

@@ -15,7 +15,7 @@ from frames import end_packet, frames_packet, program_packet
 from reading import SAMPLES, SEED, facts_of, packets_of, recording_of_three, salvaged
 from support import BPFREC, INFO, LIBRARY, SALVAGE, judge, judge_quietly, outcome, run, shared_library
 
-WANTED = {"bin/bpfrec": "make build", "cc": "gcc"}
+WANTED = ("bin/bpfrec", "cc")
 DAMAGED = 1_000
 
 with_or_without_sums = pytest.mark.parametrize("is_summed", [False, True], ids=["without_sums", "with_sums"])

@@ -31,7 +31,7 @@ from expected_facts import (
 from reading import SEED, as_json, audit_of, facts_of, page_parts, read, recording_of_three, text_parts, time_of
 from support import INFO, judge, judge_quietly, outcome, present, run
 
-WANTED = {"bin/bpfrec": "make build"}
+WANTED = ("bin/bpfrec",)
 DAMAGED, BY_PROCESS = 1_500, 40
 # What info says of the second sample without facts.
 WITHOUT_FACTS = """\

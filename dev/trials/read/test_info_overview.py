@@ -9,7 +9,7 @@ from expected_facts import facts_of_run
 from reading import SAMPLES
 from support import BPFREC, INFO, ROOT, judge, outcome, run
 
-WANTED = {"bin/bpfrec": "make build"}
+WANTED = ("bin/bpfrec",)
 HEAD = "channel        frames       offered    frames/s         first s          last s  remarks"
 DROP_ALL = "1,6 0 0 0,"
 # Lines by hand, of feeds of 60 frames: the first channel takes 50 of them, and the second keeps none.

@@ -12,7 +12,7 @@ from frames import frames_packet, header_of, numbered, packet_of, sum_of, with_c
 from reading import BlockSums, facts_of, salvaged
 from support import BPFREC, judge, judge_quietly, outcome
 
-WANTED = {"bin/bpfrec": "make build"}
+WANTED = ("bin/bpfrec",)
 # A type of packets that is another recorder's, whose data have no form to be refused by.
 FOREIGN = 0x11
 # So many headers stand one after another, each of which claims a mebibyte; and how long they may take, in seconds.

@@ -7,7 +7,7 @@ import pytest
 from expected_facts import TAI_37, facts_of_run
 from support import INFO, judge, run
 
-WANTED = {"bin/bpfrec": "make build"}
+WANTED = ("bin/bpfrec",)
 
 
 @pytest.mark.parametrize(

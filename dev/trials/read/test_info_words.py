@@ -7,7 +7,7 @@ import bpfrec
 from expected_facts import TAI_37, facts_of_run
 from support import INFO, judge, run
 
-WANTED = {"bin/bpfrec": "make build"}
+WANTED = ("bin/bpfrec",)
 
 
 def test_a_version_has_the_words_of_which_its_filter_was_made(work: Path, sample: Path) -> None:

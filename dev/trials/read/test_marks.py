@@ -15,7 +15,7 @@ from frames import FRAMES, body_of, end_packet, numbered, packet_of, program_pac
 from pcapng_blocks import COMMENT, SECTION, Block, blocks_in
 from support import EXPORT, INFO, TOOLS, judge, outcome, run
 
-WANTED = {"bin/bpfrec": "make build", "tshark": "tshark", "capinfos": "wireshark-common"}
+WANTED = ("bin/bpfrec", "tshark", "capinfos")
 FOLLOW = TOOLS / "follow"
 ORIGIN = [("1764590400.000000000", 0, None, "UTC")]
 SECOND = 10**7

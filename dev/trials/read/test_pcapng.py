@@ -20,13 +20,7 @@ from rows import drawn_recording, flight_of
 from seen_frames import channels_of, feeds_of, judge_whole, made, seen_in
 from support import BPFREC, CONVERT, EXPORT, LIBRARY, judge, judge_quietly, outcome, pipe_at, run, shared_library
 
-WANTED = {
-    "bin/bpfrec": "make build",
-    "tshark": "tshark",
-    "capinfos": "wireshark-common",
-    "tcpdump": "tcpdump",
-    "cc": "gcc",
-}
+WANTED = ("bin/bpfrec", "tshark", "capinfos", "tcpdump", "cc")
 DRAWN = 10
 
 

@@ -11,7 +11,7 @@ from seen_frames import seen_in
 from several_recorders import facts_by, recording_at
 from support import EXPORT, INFO, judge, outcome, run
 
-WANTED = {"bin/bpfrec": "make build", "tshark": "tshark", "capinfos": "wireshark-common"}
+WANTED = ("bin/bpfrec", "tshark", "capinfos")
 # On a quiet machine that many channels take five seconds.
 CHANNELS, PATIENCE = 65_535, 40
 

@@ -14,7 +14,7 @@ from exports import wanted_of
 from frames import body_of, end_packet, packet_of, program_packet, records
 from support import BPFREC, CHECK_SUMS, EXPORT, INFO, SALVAGE, judge, outcome, run, sums
 
-WANTED = {"bin/bpfrec": "make build"}
+WANTED = ("bin/bpfrec",)
 PATIENCE = 240
 FRAMES, ANOTHER = 0x68, 0x09
 CHANNELS = [*range(1, 65_536, 950), 65_535]

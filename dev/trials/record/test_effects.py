@@ -14,7 +14,7 @@ from frames import counted_feed
 from recorder import RECORD_LENGTH, RECORDINGS, begin, make_feed, record, write_settings
 from support import BPFREC, CONVERT, EXPORT, SALVAGE, judge, judge_quietly, outcome, present, run
 
-WANTED = {"bin/bpfrec": "make build", "cc": "gcc"}
+WANTED = ("bin/bpfrec", "cc")
 SAMPLE = RECORDINGS / "two_versions.ch11"
 FRAMES = 100
 # Those that lock OUT, and those that do not.

@@ -24,7 +24,7 @@ from full_size import (
 from recorder import begin
 from support import BPFREC, EXPORT, INFO, SALVAGE, judge, judge_quietly, present, run, sums
 
-WANTED = {"bin/bpfrec": "make build"}
+WANTED = ("bin/bpfrec",)
 
 
 class Made(NamedTuple):

@@ -15,7 +15,7 @@ from exports import wanted_of
 from recorder import ONE_FRAME, RECORDINGS, make_feed, record, write_settings
 from support import BPFREC, LIBRARY, judge, judge_quietly, outcome, present, shared_library
 
-WANTED = {"bin/bpfrec": "make build", "cc": "gcc"}
+WANTED = ("bin/bpfrec", "cc")
 pytestmark = pytest.mark.timed
 FRAMES = 100
 REPORT = f"channel 1 versions 1 offered {FRAMES} kept {FRAMES} SourceEnd\n"

@@ -23,7 +23,7 @@ from recorder import (
 )
 from support import BPFREC, ROOT, judge, judge_quietly, outcome, present, wait_for
 
-WANTED = {"bin/bpfrec": "make build"}
+WANTED = ("bin/bpfrec",)
 pytestmark = pytest.mark.timed
 ANSWERS = 500
 IDLE_SECONDS = 5

@@ -23,7 +23,7 @@ from frames import (
 from recorder import record, write_settings
 from support import BPFREC, KEEPS_ALL, judge, outcome, run
 
-WANTED = {"bin/bpfrec": "make build"}
+WANTED = ("bin/bpfrec",)
 INSN = insns_of((6, 0, 0, 1))
 FRAME = bytes.fromhex("ffffffffffff020000000001080600010203")
 

@@ -11,7 +11,7 @@ from bpfrec_tools import VERSION, verbs
 from reading import SAMPLES
 from support import BPFREC, COMMAND, KEEPS_ALL, ROOT, judge, judge_quietly, outcome, run, wait_for
 
-WANTED = {"bin/bpfrec": "make build"}
+WANTED = ("bin/bpfrec",)
 PROVED = [name for name, verb in verbs.VERBS.items() if verb.is_proved]
 TOOLS = [name for name, verb in verbs.VERBS.items() if verb.module]
 

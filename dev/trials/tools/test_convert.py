@@ -17,12 +17,7 @@ from frames import counters, records
 from pcapng import MICROSECONDS, NANOSECONDS, capture_head, captured, rewritten, with_wrong_sequences
 from support import CAPTURE, CONVERT, judge, outcome, present, run
 
-WANTED = {
-    "bin/capture": "make build",
-    "tcpdump": "tcpdump",
-    "tshark": "tshark",
-    "editcap": "wireshark-common",
-}
+WANTED = ("bin/capture", "tcpdump", "tshark", "editcap")
 FRAMES = 2_000
 
 

@@ -32,7 +32,7 @@ from pcapng import (
 )
 from support import CAPTURE, CONVERT, judge, outcome
 
-WANTED = {"bin/capture": "make build"}
+WANTED = ("bin/capture",)
 TOOLS = {"convert": (CONVERT, "from-pcap", "--force"), "capture": (CAPTURE,)}
 each_order = pytest.mark.parametrize("order", ["<", ">"], ids=["little", "big"])
 MOST_BLOCK, MOST_CAPTURED, SMALL_PIPE = 1 << 24, 262_144, 4_096

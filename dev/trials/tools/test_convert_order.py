@@ -12,7 +12,7 @@ from frames import counters
 from pcapng import MICROSECONDS, capture_head, captured
 from support import CAPTURE, CONVERT, as_given, judge, outcome, run
 
-WANTED = {"bin/capture": "make build"}
+WANTED = ("bin/capture",)
 SECOND = 1_764_590_400
 # As of two interfaces, or of a clock that was set back.
 MOMENTS = (100_010, 100_005, 100_020)

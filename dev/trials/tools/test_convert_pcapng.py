@@ -28,13 +28,7 @@ from pcapng import (
 )
 from support import CAPTURE, CONVERT, judge, judge_quietly, outcome, run
 
-WANTED = {
-    "bin/capture": "make build",
-    "cc": "gcc",
-    "tshark": "tshark",
-    "editcap": "wireshark-common",
-    "mergecap": "wireshark-common",
-}
+WANTED = ("bin/capture", "cc", "tshark", "editcap", "mergecap")
 FRAMES = 2_000
 DAMAGED = 300
 

@@ -30,7 +30,7 @@ from support import (
     wait_for,
 )
 
-WANTED = {"bin/bpfrec": "make build"}
+WANTED = ("bin/bpfrec",)
 FOLLOW = TOOLS / "follow"
 FULL, CLOSED = "No space left on device", "Bad file descriptor"
 # Those that print, and those that wait for a pipe; all end at a fault of a file with status 3.

@@ -9,7 +9,7 @@ import pytest
 from recorder import make_feed
 from support import COMMAND, CONVERT, ROOT, TOOLS, judge, judge_quietly, outcome, run
 
-WANTED = {"bin/bpfrec": "make build", "bin/capture": "make build", "tcpdump": "tcpdump", "editcap": "wireshark-common"}
+WANTED = ("bin/bpfrec", "bin/capture", "tcpdump", "editcap")
 FILTER, LIVE = TOOLS / "filter", TOOLS / "live"
 FEED = ROOT / "examples/feeds/one.feed"
 EXPRESSION, ORIGIN = "udp port 50001", "1764590400.25"

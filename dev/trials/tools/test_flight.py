@@ -9,7 +9,7 @@ import pytest
 import tomllib
 from support import BPFREC, CONVERT, PREFLIGHT, ROOT, TOOLS, judge, judge_quietly, outcome, run
 
-WANTED = {"bin/bpfrec": "make build", "bin/capture": "make build", "tcpdump": "tcpdump"}
+WANTED = ("bin/bpfrec", "bin/capture", "tcpdump")
 LIVE = TOOLS / "live"
 FEED = ROOT / "examples/feeds/one.feed"
 CHANNELS = """

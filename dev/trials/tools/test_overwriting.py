@@ -10,7 +10,7 @@ from reading import SAMPLES
 from recorder import make_feed
 from support import CHECK, CONVERT, EXPORT, INFO, SALVAGE, TOOLS, judge, outcome, run
 
-WANTED = {"bin/bpfrec": "make build"}
+WANTED = ("bin/bpfrec",)
 MAKING = ("salvage", "pcapng", "filter")
 
 

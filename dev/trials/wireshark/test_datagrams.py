@@ -16,7 +16,7 @@ from rows import printed
 from support import judge
 from whole_file_parts import Part, parts_of
 
-WANTED = {"tshark": "tshark"}
+WANTED = ("tshark",)
 PORT = 50_000
 AT_PORT = ("-o", f"ch10udp.port:{PORT}")
 

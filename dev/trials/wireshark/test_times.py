@@ -29,7 +29,7 @@ from support import BPFREC, CONVERT, EXPORT, judge, judge_quietly, run
 from whole_file import Origin, whole_file
 from whole_file_parts import ORIGIN, SAMPLE_SETUP, parts_of, sample_recording
 
-WANTED = {"bin/bpfrec": "make build", "tshark": "tshark"}
+WANTED = ("bin/bpfrec", "tshark")
 DRAWN = 40
 
 
