@@ -22,7 +22,7 @@ from bpfrec_tools.live.parts.guard import Guard, write_facts
 from bpfrec_tools.live.parts.loop import Loop
 from bpfrec_tools.live.parts.recorder import Recorder
 from bpfrec_tools.live.parts.recordings import ROOM, Recordings
-from bpfrec_tools.live.run.run import Run
+from bpfrec_tools.live.run.recorders import Recorders
 from support import judge
 
 YES, NO = "channel 1 programs 1 frames 1 offered 1\nyes other 0\n", "no 5 NoEnd 1\n"
@@ -165,9 +165,9 @@ def test_a_recording_that_went_before_is_no_sync_of_the_one_that_goes_on() -> No
     synced: list[float] = []
     current, before = Recording(2, "b"), Recording(1, "a")
     part = SimpleNamespace(forced=lambda _, moment: synced.append(moment))
-    played: Any = SimpleNamespace(machine=SimpleNamespace(current=current), parts=[part])
+    recorders = Recorders(cast(Any, SimpleNamespace(machine=SimpleNamespace(current=current), parts=[part])))
     for recording, moment in ((before, 1.0), (current, 2.0), (before, 3.0)):
-        Run.synced(played, cast(Recorder, SimpleNamespace(recording=recording)), moment)
+        recorders.forced(cast(Recorder, SimpleNamespace(recording=recording)), moment)
     judge("that one alone is told", synced == [2.0], synced)
 
 

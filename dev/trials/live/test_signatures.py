@@ -16,7 +16,19 @@ from frames import HEAD, numbered
 from namespace import make_pair
 from recordings import YES, facts_of, is_approved, nothing_left, recordings
 from schemas import faults, schema_of
-from signing import OTHER, SIGNER, allowed, checked, facts_file, hash_of, judge_refused, made_key, recorded_parts, signature_of, without_ssh
+from signing import (
+    OTHER,
+    SIGNER,
+    allowed,
+    checked,
+    facts_file,
+    hash_of,
+    judge_refused,
+    made_key,
+    recorded_parts,
+    signature_of,
+    without_ssh,
+)
 from support import judge, judge_quietly, run, sums
 
 WANTED = ("bin/bpfrec", "bin/capture", "ip", "ssh-keygen", "ssh-agent")

@@ -14,7 +14,17 @@ from pathlib import Path
 import pytest
 from recordings import begin, facts_of, is_approved, nothing_left, recordings, settings_of
 from schemas import faults, schema_of
-from signing import SIGNER, allowed, checked, hash_of, judge_refused, made_key, recorded_parts, signature_of, without_ssh
+from signing import (
+    SIGNER,
+    allowed,
+    checked,
+    hash_of,
+    judge_refused,
+    made_key,
+    recorded_parts,
+    signature_of,
+    without_ssh,
+)
 from support import BPFREC, INFO, LIVE, PREFLIGHT, TOOLS, Running, judge, judge_quietly, outcome, run, wait_for
 
 WANTED = ("bin/bpfrec", "bin/capture", "ip", "ssh-keygen", "ssh-agent")

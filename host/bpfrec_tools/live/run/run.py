@@ -6,26 +6,24 @@ import signal
 import time
 from typing import Callable, Optional
 
-from bpfrec.formats.answers import Answer, file_fault, is_output_fault
 from bpfrec_tools.live.arguments import Arguments
-from bpfrec_tools.live.control.changes import Change, Changes
-from bpfrec_tools.live.control.lines import LAST_VERSION, ControlLines, ControlPorts
+from bpfrec_tools.live.control.changes import Changes
+from bpfrec_tools.live.control.lines import ControlLines, ControlPorts
 from bpfrec_tools.live.control.made_filters import Maker
 from bpfrec_tools.live.kept.audits import Audits
 from bpfrec_tools.live.kept.clock_watch import ClockWatch
-from bpfrec_tools.live.kept.durability import UNFORCED, Durability, KeeperPorts
+from bpfrec_tools.live.kept.durability import Durability, KeeperPorts
 from bpfrec_tools.live.kept.ended import EndedRecordings
 from bpfrec_tools.live.kept.facts import Writer
 from bpfrec_tools.live.kept.marks import Marks
-from bpfrec_tools.live.kept.names import Files, is_special
+from bpfrec_tools.live.kept.names import Files
 from bpfrec_tools.live.kept.noted import Entry
 from bpfrec_tools.live.model import KILLED, Plan, Programs, Recording
 from bpfrec_tools.live.parts import children, outputs, system
 from bpfrec_tools.live.parts.capture import Capture
 from bpfrec_tools.live.parts.events import Events
 from bpfrec_tools.live.parts.folder import Folder
-from bpfrec_tools.live.parts.guard import Guard, open_and_close
-from bpfrec_tools.live.parts.interruptions import FAILED, Link
+from bpfrec_tools.live.parts.guard import Guard
 from bpfrec_tools.live.parts.loop import Loop, Signals
 from bpfrec_tools.live.parts.part import Part
 from bpfrec_tools.live.parts.recorder import Recorder
@@ -36,10 +34,12 @@ from bpfrec_tools.live.reports.console import Console
 from bpfrec_tools.live.reports.notify import Notifier
 from bpfrec_tools.live.reports.observers import Observers
 from bpfrec_tools.live.reports.publishers import Publishers
+from bpfrec_tools.live.run.capturing import Capturing
 from bpfrec_tools.live.run.end_of_run import EndOfRun
 from bpfrec_tools.live.run.engine import LOST
 from bpfrec_tools.live.run.machine import Machine
 from bpfrec_tools.live.run.ports import Deed, Observer, Ports
+from bpfrec_tools.live.run.recorders import Recorders
 from bpfrec_tools.live.status import Terminal
 
 
@@ -65,10 +65,11 @@ class Run:
         self.err = self.console.err
         self.observers = Observers(observer, folder, self.err)
         self.capture = Capture(programs.capture, given, folder, self.loop)
+        self.capturing, self.recorders = Capturing(self), Recorders(self)
         self.marks = Marks(self.events, given.is_rotating(), self.marked, self.err)
         self.control = self.made_control(terminal)
         self.notifier, self.signals_came = Notifier(), 0
-        self.outputs = outputs.Outputs(self.watches, given.size is not None, self.begin_recording, self.err)
+        self.outputs = outputs.Outputs(self.watches, given.size is not None, self.recorders.begun, self.err)
         self.recordings = Recordings(self.writer, self.outputs, self.err)
         self.audits = Audits(self.loop, programs.bpfrec, self.guard, self.audited, self.err)
         self.ended = self.made_ended()
@@ -94,12 +95,14 @@ class Run:
         """What decides all."""
         given, names = self.given, (self.programs.capture, self.programs.bpfrec)
         plan = Plan(bool(given.routes), given.every, given.size, given.is_audited, given.is_strict)
-        return Machine(plan, Ports(self.perform, self, self.recordings, self.err), self.recordings.first(), names)
+        return Machine(
+            plan, Ports(self.perform, self.recorders, self.recordings, self.err), self.recordings.first(), names
+        )
 
     def made_durability(self) -> Durability:
         """What keeps recordings and their facts safe."""
         following = lambda recorder: self.machine.following(recorder.recording)
-        ports = KeeperPorts(self.synced, self.sync_failed, following, self.ended.made_of)
+        ports = KeeperPorts(self.recorders.forced, self.recorders.force_failed, following, self.ended.made_of)
         return Durability(self.loop, self.writer, self.events, ports, self.err)
 
     def made_parts(self) -> list[Part]:
@@ -114,7 +117,7 @@ class Run:
     def made_deeds(self) -> dict[Deed, Callable[[Recorder], object]]:
         """What is done for each deed of the machine."""
         return {
-            Deed.START_CAPTURE: lambda _: self.start_capture(),
+            Deed.START_CAPTURE: lambda _: self.capturing.start(),
             Deed.POINT_TO: lambda recorder: self.folder.point_to(str(recorder.about.number)),
             Deed.END_CAPTURE: lambda _: self.capture.send(signal.SIGTERM),
             Deed.SWITCH_CAPTURE: lambda _: self.capture.send(signal.SIGUSR1),
@@ -122,12 +125,12 @@ class Run:
             Deed.KILL_CAPTURE: lambda _: self.capture.send(signal.SIGKILL),
             Deed.KILL_RECORDER: lambda recorder: children.kill(recorder.child),
             Deed.KILL_AUDIT: lambda recorder: children.kill(recorder.auditor),
-            Deed.OPEN_PIPES: self.open_pipes,
+            Deed.OPEN_PIPES: self.recorders.open_pipes,
             Deed.END_LINES: self.control.end,
             Deed.FORGET_OUT: self.recordings.forget_output,
             Deed.DISCARD_OUT: outputs.discard,
-            Deed.PRINT_REPORT: self.print_report,
-            Deed.CONCLUDE: self.conclude,
+            Deed.PRINT_REPORT: self.recorders.print_report,
+            Deed.CONCLUDE: self.recorders.conclude,
         }
 
     def perform(self, deed: Deed, recording: Recording) -> None:
@@ -140,7 +143,7 @@ class Run:
         """Records until all has ended: the status."""
         if self.watches.descriptor is not None:
             self.loop.on_read(self.watches.descriptor, self.watches.serve)
-        self.watches.add(str(self.folder.events), system.MODIFIED, self.look_at_events)
+        self.watches.add(str(self.folder.events), system.MODIFIED, self.capturing.look_at_events)
         self.loop.follow(self.guard, self.end_guard)
         left = self.folder.leftovers()
         if left:
@@ -149,7 +152,7 @@ class Run:
         while not self.machine.is_done():
             self.turn()
         self.finish_recordings()
-        has_lost = self.report_losses()
+        has_lost = self.capturing.report_losses()
         self.finish()
         return self.status(has_lost)
 
@@ -157,9 +160,7 @@ class Run:
         """Waits for what comes next, and has the machine do what is due."""
         self.control.read()
         now = time.monotonic()
-        moments = [self.machine.deadline(now), *(it.deadline() for it in self.parts)]
-        next_moment = min((it for it in moments if it is not None), default=None)
-        self.loop.turn(None if next_moment is None else max(0.0, next_moment - now))
+        self.wait(now, self.machine.deadline(now), *(it.deadline() for it in self.parts))
         now = time.monotonic()
         if self.machine.is_ending() or self.machine.is_concluding():
             self.notifier.stopping(now, self.machine.is_concluding())
@@ -169,6 +170,11 @@ class Run:
         self.machine.tick(now)
         self.console.write_on()
 
+    def wait(self, now: float, *moments: Optional[float]) -> None:
+        """Waits for what comes next, until the first of these moments at most."""
+        deadline = min((it for it in moments if it is not None), default=None)
+        self.loop.turn(None if deadline is None else max(0.0, deadline - now))
+
     def finish_recordings(self) -> None:
         """Ends what is still made of recordings: facts, hashes, whole files, and what is removed."""
         self.control.leave_input()
@@ -177,28 +183,30 @@ class Run:
                 outputs.discard(recorder)
             recorder.close()
         self.durability.join()
-        came = self.signals_came
-        self.ended.finish(self.turn_at_end, lambda: self.signals_came > max(came, 1))
+        self.ended.finish(self.turn_at_end, self.given_up())
 
     def finish(self) -> None:
         """Ends what still runs beside: what wasn't printed, and the guard."""
         self.marks.finish()
         self.control.finish()
-        came = self.signals_came
-        self.publishers.finish(lambda: self.signals_came > max(came, 1))
-        self.console.finish(lambda: self.signals_came > max(came, 1))
+        is_given_up = self.given_up()
+        self.publishers.finish(is_given_up)
+        self.console.finish(is_given_up)
         self.observers.all_ended()
-        self.alarm_command.finish(lambda: self.signals_came > max(came, 1))
+        self.alarm_command.finish(is_given_up)
         self.guard.dismiss()
         self.folder.remove_all()
+
+    def given_up(self) -> Callable[[], bool]:
+        """What says whether nobody waits any more for what ends from now on: a further signal came."""
+        came = self.signals_came
+        return lambda: self.signals_came > max(came, 1)
 
     def turn_at_end(self) -> None:
         """Waits for what comes next where all is recorded, and tells systemd that it needs more time."""
         now = time.monotonic()
         self.notifier.stopping(now, True)
-        moments = [self.notifier.deadline(), self.ended.progress.deadline(now)]
-        deadline = min((it for it in moments if it is not None), default=None)
-        self.loop.turn(None if deadline is None else max(0.0, deadline - now))
+        self.wait(now, self.notifier.deadline(), self.ended.progress.deadline(now))
         self.notifier.tick(time.monotonic())
         self.ended.progress.tick(time.monotonic())
         self.console.write_on()
@@ -222,135 +230,11 @@ class Run:
         """The guard has ended, which it does by itself only once live has."""
         self.err(f"bpfrec live: its guard was ended by signal {status - KILLED}: all goes on without it")
 
-    # ---- the recorder
+    # ---- what is known
 
     def current(self) -> Recorder:
         """What live has of the recording that goes on."""
         return self.recordings.of(self.machine.current)
-
-    def start_recorder(self, recording: Recording) -> bool:
-        """Starts the recorder, which waits for its pipes: False, which is told, where that can't be done."""
-        recorder = self.recordings.of(recording)
-        try:
-            if recorder.descriptor is None and not is_special(recorder.about.out):
-                recorder.hold_place()
-            child = recorder.start(self.programs.bpfrec, self.guard.all, self.guard.lifeline_of_both())
-        except OSError as error:
-            self.err(f"bpfrec live: {self.programs.bpfrec} record can't be started: {error.strerror}")
-            self.recordings.drop(recording)
-            return False
-        self.ended.hashes.begin(recording.number)
-        self.loop.follow(child, lambda status: self.end_recorder(recorder, status))
-        self.loop.on_read(recorder.answers, lambda: self.take_answers(recorder))
-        if not self.control.is_open():
-            self.control.end(recorder)
-        return True
-
-    def begin_recording(self, recorder: Recorder) -> None:
-        """A recorder has opened OUT."""
-        recorder.let_live()
-        self.machine.opened(recorder.recording)
-        for part in self.parts:
-            part.begun(recorder)
-
-    def synced(self, recorder: Recorder, moment: float) -> None:
-        """A recording was forced to its disk."""
-        for part in self.parts if recorder.recording is self.machine.current else []:
-            part.forced(recorder, moment)
-
-    def sync_failed(self, recorder: Recorder, why: str) -> None:
-        """A recording couldn't be forced to its disk."""
-        if not recorder.recording.is_unforced and not recorder.recording.has_failed:
-            self.observers.sync_failed(recorder, why)
-            self.durability.write(recorder)
-        self.machine.force_failed(recorder.recording, why, time.monotonic())
-
-    def take_answers(self, recorder: Recorder) -> None:
-        """Tells the recorder's answers, and sees whether its output failed."""
-        for line in recorder.answered():
-            self.err(self.control.told(recorder, line, lambda change, it: self.take_change(recorder, change, it)))
-            if is_output_fault(line):
-                self.machine.output_failed(recorder.recording, time.monotonic())
-            elif line == file_fault(recorder.about.out) and recorder.keeper:
-                # It has opened OUT before, so that is what it says where its fsync fails.
-                recorder.keeper.sync_fault = recorder.keeper.sync_fault or UNFORCED
-                self.sync_failed(recorder, UNFORCED)
-
-    def take_change(self, recorder: Recorder, change: Change, answer: Answer) -> None:
-        """The recorder has answered a line."""
-        if answer.version is not None and change.words:
-            self.durability.write(recorder)
-        if answer.version is not None and recorder.recording is self.machine.current:
-            self.observers.changed(answer.channel, answer.version, change.name)
-            if self.given.is_rotating() and answer.version >= LAST_VERSION:
-                self.machine.used_up(recorder.recording)
-
-    def end_recorder(self, recorder: Recorder, status: int) -> None:
-        """A recorder has ended."""
-        self.take_answers(recorder)
-        self.loop.on_read(recorder.answers, None)
-        for part in self.parts:
-            part.ended(recorder)
-        self.machine.recorder_ended(recorder.recording, status, time.monotonic())
-
-    def open_pipes(self, recorder: Recorder) -> None:
-        """Lets a recorder go on that waits for the writer of a pipe."""
-        for pipe in self.folder.pipes(recorder.about.number):
-            open_and_close(pipe)
-
-    # ---- the capture
-
-    def start_capture(self) -> None:
-        """Starts the capture of all interfaces."""
-        if self.observers.is_on():
-            self.capture.read_counts(self.observers.counted)
-        if self.console.takes_lines():
-            self.capture.read_lines(self.err, self.console.terminal.is_shown())
-        self.capture.start(self.guard.all, self.end_capture)
-
-    def end_capture(self, status: int) -> None:
-        """The capture has ended."""
-        self.look_at_events()
-        if status > KILLED:
-            self.note_killed_capture()
-        for line in self.capture.end(status):
-            self.err(line)
-        self.machine.capture_ended(status, time.monotonic())
-
-    def note_killed_capture(self) -> None:
-        """Notes that no interface brings frames any more, which a capture that was killed couldn't."""
-        feeds = [it.about.feed for it in self.recordings.all.values()]
-        if self.events.origins and feeds:
-            counter, feed = self.marks.counter_of(time.monotonic_ns()), max(feeds)
-            for it in self.folder.routes:
-                self.events.interruptions.take(Link(it.interface, counter, FAILED, feed))
-
-    def look_at_events(self) -> None:
-        """Takes what the capture has noted."""
-        if self.events.read() == 0:
-            return
-        if self.events.origins:
-            self.marks.begin_clock()
-            self.machine.capture_ready()
-        self.observers.linked(self.events.take_links())
-        for recorder in self.recordings.all.values():
-            self.durability.write(recorder)
-
-    # ---- what is told
-
-    def print_report(self, recorder: Recorder) -> None:
-        """Prints what the recorder printed, where another recording may follow once this one is audited."""
-        if self.given.is_rotating():
-            recorder.report = f"recording {recorder.about.out}\n{recorder.text('report')}"
-        else:
-            self.console.out(recorder.text("report"))
-
-    def report_losses(self) -> bool:
-        """Tells what interfaces lost in all, as the last lines: whether one did."""
-        self.events.read()
-        for lost in self.events.lost_in_all:
-            self.err(f"bpfrec live: {lost.sentence()}")
-        return bool(self.events.lost_in_all)
 
     def status(self, has_lost: bool) -> int:
         """The status of the run, once all is recorded, made and printed."""
@@ -362,22 +246,6 @@ class Run:
         self.durability.write(recorder)
         self.observers.marked(recorder, mark)
 
-    # ---- the end of a recording
-
-    def audit(self, recording: Recording) -> bool:
-        """Starts an audit; False where OUT is no file that could be audited."""
-        return self.audits.start(self.recordings.of(recording))
-
     def audited(self, recording: Recording, status: int) -> None:
         """An audit has ended."""
         self.machine.audited(recording, status)
-
-    def conclude(self, recorder: Recorder) -> None:
-        """Tells what is known of a recording at its end, and lets go all that it has."""
-        recording, status = recorder.recording, recorder.recording.outcome or 0
-        if recorder.report:
-            self.console.out(recorder.report)
-        for part in self.parts:
-            part.concluded(recorder, status)
-        if recording is not self.machine.current:
-            self.recordings.forget(recording)
