@@ -12,7 +12,7 @@ from bpfrec_tools.cli.signatures import Unsigned
 from bpfrec_tools.live.arguments import Arguments
 from bpfrec_tools.live.control.sockets import judge_path
 from bpfrec_tools.live.kept.clock_watch import by_the_kernel
-from bpfrec_tools.live.kept.names import Refusal, is_special
+from bpfrec_tools.live.kept.names import is_special, refused
 from bpfrec_tools.live.kept.signer import LONGEST_TRIAL, Signer
 
 # How many descriptors live has open at most: while it records, while recordings follow one another, and for browsers.
@@ -40,14 +40,14 @@ def refuse_few_descriptors(given: Arguments, channels: int) -> None:
     if is_under(soft, needed) and not is_under(hard, needed):
         resource.setrlimit(resource.RLIMIT_NOFILE, (hard, hard))
     elif is_under(soft, needed):
-        raise Refusal(3, f"bpfrec live: it needs {needed} descriptors, and may have {hard}: ulimit -n {needed}")
+        raise refused(3, f"it needs {needed} descriptors, and may have {hard}: ulimit -n {needed}")
 
 
 def refuse_many_channels(settings: Settings) -> None:
     """Refuses more channels than a recording has, before each of them is looked at."""
     fault = settings.count_fault()
     if fault:
-        raise Refusal(2, f"bpfrec live: {settings.file}: {fault}")
+        raise refused(2, f"{settings.file}: {fault}")
 
 
 def refuse_without_id(settings: Settings) -> None:
@@ -55,13 +55,13 @@ def refuse_without_id(settings: Settings) -> None:
     for channel in settings.channels:
         if "id" not in channel.table:
             place = ":".join(str(it) for it in (settings.file, channel.line("id")) if it)
-            raise Refusal(2, f"bpfrec live: {place}: {channel.name}: settings 3 Missing id")
+            raise refused(2, f"{place}: {channel.name}: settings 3 Missing id")
 
 
 def refuse_feeds_alone(given: Arguments) -> None:
     """Refuses recordings that follow one another without an interface."""
     if given.is_rotating() and not given.routes:
-        raise Refusal(2, "bpfrec live: --every and --size need an interface")
+        raise refused(2, "--every and --size need an interface")
 
 
 def is_under(limit: int, needed: int) -> bool:
@@ -83,20 +83,20 @@ def refuse_holder() -> None:
     try:
         holder.encode()
     except UnicodeEncodeError:
-        raise Refusal(3, f"bpfrec live: TMPDIR is not UTF-8: {os.fsencode(holder)!r}") from None
+        raise refused(3, f"TMPDIR is not UTF-8: {os.fsencode(holder)!r}") from None
 
 
 def refuse_clock(given: Arguments) -> None:
     """Refuses a clock that is worse than one that is asked for."""
     fault = by_the_kernel().fault(given.clock_error)
     if fault:
-        raise Refusal(3, f"bpfrec live: --require-clock: {fault}")
+        raise refused(3, f"--require-clock: {fault}")
 
 
 def refuse_alarm_command(given: Arguments) -> None:
     """Refuses a program for alarms that isn't there."""
     if given.on_alarm and not shutil.which(given.on_alarm[0]):
-        raise Refusal(3, f"bpfrec live: --on-alarm: {given.on_alarm[0]} is missing, or can't be run")
+        raise refused(3, f"--on-alarm: {given.on_alarm[0]} is missing, or can't be run")
 
 
 def refuse_control(given: Arguments) -> None:
@@ -111,7 +111,7 @@ def refuse_signing(given: Arguments) -> None:
         if given.sign is not None:
             Signer(given.sign, longest=LONGEST_TRIAL).sign(PROBE)
     except Unsigned as why:
-        raise Refusal(3, f"bpfrec live: --sign {given.sign}: {why}") from None
+        raise refused(3, f"--sign {given.sign}: {why}") from None
 
 
 def refuse_captures(given: Arguments) -> None:
@@ -124,18 +124,18 @@ def refuse_captures(given: Arguments) -> None:
     }
     asked = [option for option, value in live_alone.items() if value is not None]
     if given.reads_captures() and asked:
-        raise Refusal(2, f"bpfrec live: {asked[0]} is for interfaces")
+        raise refused(2, f"{asked[0]} is for interfaces")
     for route in given.routes if given.reads_captures() else ():
         if not os.path.isfile(route.interface):
             what = "it is no regular file" if os.path.exists(route.interface) else "no such file"
-            raise Refusal(3, f"bpfrec live: {route.interface}: {what}")
+            raise refused(3, f"{route.interface}: {what}")
 
 
 def refuse_together(given: Arguments) -> None:
     """Refuses options that don't go together."""
     refuse_captures(given)
     for what in apart(given):
-        raise Refusal(2, f"bpfrec live: {what}")
+        raise refused(2, what)
 
 
 def apart(given: Arguments) -> Iterator[str]:

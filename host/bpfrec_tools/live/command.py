@@ -11,7 +11,7 @@ from bpfrec_tools.cli import program
 from bpfrec_tools.live import ahead
 from bpfrec_tools.live.arguments import Arguments, parser, read
 from bpfrec_tools.live.control.changes import may_bring_lines
-from bpfrec_tools.live.kept.names import Files, Refusal, is_special, refuse_folder, refuse_long, unreadable
+from bpfrec_tools.live.kept.names import Files, Refusal, is_special, refuse_folder, refuse_long, refused, unreadable
 from bpfrec_tools.live.model import Programs
 from bpfrec_tools.live.parts.expressions import judge_filters
 from bpfrec_tools.live.parts.folder import Folder, judge_settings, made_settings, read_settings
@@ -20,6 +20,7 @@ from bpfrec_tools.live.parts.spans import judge_spans
 from bpfrec_tools.live.reports import journal
 from bpfrec_tools.live.run.ports import Observer
 from bpfrec_tools.live.run.run import Run
+from bpfrec_tools.live.said import said
 from bpfrec_tools.live.status import BadEndpoint, NoServer, Status, Terminal, endpoint_in
 from bpfrec_tools.live.status.observer import USUAL_LIMIT
 
@@ -49,7 +50,7 @@ def run(arguments: list[str], observer: Optional[Observer] = None) -> int:
         journal.err(refusal.line)
         return refusal.status
     if signals.come():
-        journal.err("bpfrec live: it was ended before anything was begun")
+        journal.err(said("it was ended before anything was begun"))
         return 3
     try:
         recording = Run(given, programs, folder, signals, observer or status, terminal)
@@ -89,7 +90,7 @@ def made_status(given: Arguments, limit: object, terminal: Terminal) -> Optional
         has_ring = given.keep is not None or given.keep_free is not None
         return Status(endpoint, terminal, given.sync, longest, has_ring) if is_watched else None
     except (BadEndpoint, NoServer) as why:
-        raise Refusal(why.status, f"bpfrec live: {why}") from None
+        raise refused(why.status, str(why)) from None
 
 
 def find_programs(given: Arguments) -> Programs:
@@ -97,11 +98,11 @@ def find_programs(given: Arguments) -> Programs:
     try:
         bpfrec = program.find()
     except program.Missing as why:
-        raise Refusal(3, f"bpfrec live: {why}") from None
+        raise refused(3, str(why)) from None
     capture = program.capture_path()
     if given.routes and not shutil.which(capture):
         made = "make build makes it where libpcap's headers are (apt-get install libpcap-dev)"
-        raise Refusal(3, f"bpfrec live: {capture} is missing: {made}")
+        raise refused(3, f"{capture} is missing: {made}")
     return Programs(bpfrec, capture)
 
 
@@ -110,7 +111,7 @@ def look_ahead(given: Arguments) -> None:
     if given.settings is not None:
         why = unreadable(given.settings)
         if why:
-            raise Refusal(3, f"bpfrec live: {why}")
+            raise refused(3, why)
         if os.path.exists(given.out) and os.path.samefile(given.out, given.settings):
             raise Refusal(3, f"file {given.out}")
     ahead.refuse_together(given)
@@ -127,6 +128,6 @@ def look_ahead(given: Arguments) -> None:
             refuse_long(given.out, bool(given.routes), given.sign is not None)
         return
     if os.path.exists(given.out) and not os.path.isfile(given.out):
-        raise Refusal(2, f"bpfrec live: --every and --size make files, and {given.out} is not a file")
+        raise refused(2, f"--every and --size make files, and {given.out} is not a file")
     refuse_folder(given.out)
     refuse_long(Names(given.out).next()[1], True, given.sign is not None)

@@ -10,7 +10,7 @@ from typing import NamedTuple, Optional
 from bpfrec.formats.limits import MAX_CHANNEL_ID
 from bpfrec.formats.packet import SYNC
 from bpfrec_tools.cli.arguments import name_of
-from bpfrec_tools.live.kept.names import Refusal
+from bpfrec_tools.live.kept.names import refused
 
 # A name of an interface has neither `=` nor `/`; in its place may stand a capture, by its ending.
 ROUTE = re.compile(
@@ -44,17 +44,17 @@ def operands_of(operands: list[str]) -> Operands:
     """What the operands say; a Refusal names what is missing or wrong."""
     help_text = f"{name_of('live')} --help has its arguments"
     if not operands or (len(operands) == 1 and names_settings(operands)):
-        raise Refusal(2, f"bpfrec live: it takes SETTINGS and OUT: {help_text}")
+        raise refused(2, f"it takes SETTINGS and OUT: {help_text}")
     if names_settings(operands):
         settings, out, *rest = operands
         refuse_interface(settings, 3)
         if is_route(out):
-            raise Refusal(2, f"bpfrec live: OUT is missing: it stands between {settings} and {out}")
+            raise refused(2, f"OUT is missing: it stands between {settings} and {out}")
         return Operands(settings, dashed(out), routes_of(rest))
     out, *rest = operands
     refuse_interface(out, 2)
     if not rest:
-        raise Refusal(2, f"bpfrec live: an INTERFACE is missing: it stands behind {out}")
+        raise refused(2, f"an INTERFACE is missing: it stands behind {out}")
     return Operands(None, dashed(out), routes_of(numbered(rest)))
 
 
@@ -62,13 +62,13 @@ def refuse_interface(operand: str, status: int) -> None:
     """Refuses an interface that is here in the place of SETTINGS or OUT."""
     found = ROUTE.fullmatch(operand)
     if found and is_interface(found["interface"]) and not os.path.lexists(operand):
-        raise Refusal(status, f"bpfrec live: {operand} is an interface: SETTINGS, OUT, then interfaces")
+        raise refused(status, f"{operand} is an interface: SETTINGS, OUT, then interfaces")
 
 
 def dashed(out: str) -> str:
     """OUT as a path that no program takes for an option."""
     if out == "-":
-        raise Refusal(2, "bpfrec live: -: OUT is a file or a named pipe, since standard output has the report")
+        raise refused(2, "-: OUT is a file or a named pipe, since standard output has the report")
     return f"./{out}" if out.startswith("-") else out
 
 
@@ -129,10 +129,10 @@ def routes_of(operands: list[str]) -> list[Route]:
     for operand in operands:
         route = route_of(operand)
         if any(it.channel == route.channel for it in routes):
-            raise Refusal(2, f"bpfrec live: channel {route.channel} has two interfaces")
+            raise refused(2, f"channel {route.channel} has two interfaces")
         routes.append(route)
     if len({it.is_capture() for it in routes}) > 1:
-        raise Refusal(2, "bpfrec live: captures and interfaces have runs of their own")
+        raise refused(2, "captures and interfaces have runs of their own")
     return routes
 
 
@@ -140,14 +140,14 @@ def route_of(operand: str) -> Route:
     """The interface, the channel and the expression of an operand."""
     found = ROUTE.fullmatch(operand)
     if not found:
-        raise Refusal(2, f"bpfrec live: no INTERFACE=CHANNEL: {operand}")
+        raise refused(2, f"no INTERFACE=CHANNEL: {operand}")
     interface, channel, expression = found["interface"], found["channel"], found["expression"]
     if interface.startswith("-"):
-        raise Refusal(2, f"bpfrec live: {interface}: the name of an interface doesn't begin with -")
+        raise refused(2, f"{interface}: the name of an interface doesn't begin with -")
     if channel is None:
-        raise Refusal(2, f"bpfrec live: {operand}: with SETTINGS name its channel, as {operand}=1")
+        raise refused(2, f"{operand}: with SETTINGS name its channel, as {operand}=1")
     if not is_channel_id(channel):
-        raise Refusal(2, f"bpfrec live: {operand}: a channel ID is 1 to {MAX_CHANNEL_ID}")
+        raise refused(2, f"{operand}: a channel ID is 1 to {MAX_CHANNEL_ID}")
     if expression is not None and not expression.strip():
-        raise Refusal(2, f"bpfrec live: {interface}={channel}: the expression is empty")
+        raise refused(2, f"{interface}={channel}: the expression is empty")
     return Route(interface, int(channel), expression)

@@ -15,6 +15,7 @@ from bpfrec_tools.live.kept.noted import note_filter
 from bpfrec_tools.live.parts.expressions import is_in_words, name_of
 from bpfrec_tools.live.parts.folder import Folder, copy_listing
 from bpfrec_tools.live.reports.standard_streams import another
+from bpfrec_tools.live.said import said
 
 # A line that is longer is handed on in parts, and refused by the recorder.
 MAX_LINE_LEN = 1 << 20
@@ -122,7 +123,7 @@ class Pipe:
     def forget(self) -> None:
         """No line is answered any more: says so to who asked."""
         for change in self.unanswered:
-            answer(change.asker, "bpfrec live: the recording ended ahead of an answer", False)
+            answer(change.asker, said("the recording ended ahead of an answer"), False)
         self.unanswered.clear()
 
     def close(self) -> None:
@@ -147,7 +148,7 @@ class Held:
 
     def fault(self) -> Optional[str]:
         """What is wrong with it, once that is known."""
-        return f"bpfrec live: {os.fsdecode(self.line)}: {self.made.fault}" if self.made and self.made.fault else None
+        return said(f"{os.fsdecode(self.line)}: {self.made.fault}") if self.made and self.made.fault else None
 
     def asked(self) -> tuple[bytes, Change]:
         """The line for the recorder."""

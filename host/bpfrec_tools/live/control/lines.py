@@ -16,6 +16,7 @@ from bpfrec_tools.live.control.words import HELP, Asker, Word, answer, mark_in, 
 from bpfrec_tools.live.parts.loop import Loop
 from bpfrec_tools.live.parts.part import Part
 from bpfrec_tools.live.parts.recorder import Recorder
+from bpfrec_tools.live.said import said
 from bpfrec_tools.live.status import Terminal
 
 # So many lines a recorder has at once at most. From this version of a channel's filter on the next recording begins,
@@ -121,7 +122,7 @@ class ControlLines(Part):
         try:
             call()
         except Exception as error:
-            self.say(asker, f"bpfrec live: {os.fsdecode(line)}: {type(error).__name__}: {error}", False)
+            self.say(asker, said(f"{os.fsdecode(line)}: {type(error).__name__}: {error}"), False)
 
     def take(self, line: bytes, asker: Asker) -> None:
         """Takes a line. A mark is noted at once, since it is of this moment."""
@@ -131,9 +132,9 @@ class ControlLines(Part):
         elif self.given.is_prefiltered and not word_of(line):
             # It would change what the kernel doesn't know.
             why = "with --prefilter no line changes a filter, since the kernel runs it"
-            self.say(asker, f"bpfrec live: {os.fsdecode(line)}: {why}", False)
+            self.say(asker, said(f"{os.fsdecode(line)}: {why}"), False)
         elif fault := self.changes.why_refused(line):
-            self.say(asker, f"bpfrec live: {os.fsdecode(line)}: {fault}", False)
+            self.say(asker, said(f"{os.fsdecode(line)}: {fault}"), False)
         else:
             self.held.append(self.changes.held(line, asker))
 
@@ -179,7 +180,7 @@ class ControlLines(Part):
 
     def pass_on(self, held: Held, recorder: Recorder) -> None:
         """Does what a line says, or hands it on; a filter that isn't made yet comes too late."""
-        too_late = f"bpfrec live: {os.fsdecode(held.line)}: the recording takes no more lines"
+        too_late = said(f"{os.fsdecode(held.line)}: the recording takes no more lines")
         fault, asker = held.fault() if held.is_ready() else too_late, held.change.asker
         if fault:
             self.say(asker, fault, False)
@@ -203,7 +204,7 @@ class ControlLines(Part):
             answer(asker, "the next recording begins", True)
             self.ports.next()
         else:
-            self.say(asker, "bpfrec live: next: recordings follow one another with --every or --size alone", False)
+            self.say(asker, said("next: recordings follow one another with --every or --size alone"), False)
 
     def ended(self, recorder: Recorder) -> None:
         """Ends the lines of a recorder that has ended."""
@@ -220,7 +221,7 @@ class ControlLines(Part):
     def finish(self) -> None:
         """The run has ended: lines that nobody took are answered, and none comes any more."""
         for held in self.held:
-            answer(held.change.asker, f"bpfrec live: {os.fsdecode(held.line)}: the run has ended", False)
+            answer(held.change.asker, said(f"{os.fsdecode(held.line)}: the run has ended"), False)
         if self.socket:
             self.socket.close()
             self.socket = None

@@ -16,7 +16,7 @@ from typing import Callable, Optional
 from bpfrec_tools.live.control.changes import MAX_LINE_LEN
 from bpfrec_tools.live.control.line_buffer import READ_LEN, LineBuffer
 from bpfrec_tools.live.control.words import Answering
-from bpfrec_tools.live.kept.names import Refusal
+from bpfrec_tools.live.kept.names import refused
 from bpfrec_tools.live.parts.loop import Loop
 
 # The longest path that a Unix socket can have, in bytes.
@@ -184,7 +184,7 @@ def listening_at(path: str) -> socket.socket:
         made.bind(path)
     except OSError as error:
         made.close()
-        raise Refusal(3, f"bpfrec live: --control {path}: {error.strerror}") from None
+        raise refused(3, f"--control {path}: {error.strerror}") from None
     finally:
         os.umask(before)
     made.listen(MOST_CLIENTS)
@@ -194,15 +194,15 @@ def listening_at(path: str) -> socket.socket:
 def judge_path(path: str) -> bool:
     """Refuses a path at which no socket can be made; gives whether one stands there."""
     if len(os.fsencode(path)) > MAX_PATH_LEN:
-        raise Refusal(2, f"bpfrec live: --control {path}: a socket's path has at most {MAX_PATH_LEN} bytes")
+        raise refused(2, f"--control {path}: a socket's path has at most {MAX_PATH_LEN} bytes")
     found = kind_of(path)
     if found is None and os.path.islink(path):
-        raise Refusal(3, f"bpfrec live: --control {path}: it is a link that leads nowhere")
+        raise refused(3, f"--control {path}: it is a link that leads nowhere")
     if found is not None and not stat.S_ISSOCK(found):
-        raise Refusal(3, f"bpfrec live: --control {path}: it exists, and is no socket")
+        raise refused(3, f"--control {path}: it exists, and is no socket")
     folder = os.path.dirname(path) or "."
     if not os.path.isdir(folder):
-        raise Refusal(3, f"bpfrec live: --control {path}: there is no folder {folder}")
+        raise refused(3, f"--control {path}: there is no folder {folder}")
     return found is not None
 
 
@@ -221,8 +221,8 @@ def remove_left(path: str) -> None:
         except BlockingIOError:
             pass
         except OSError as error:
-            raise Refusal(3, f"bpfrec live: --control {path}: {error.strerror}") from None
-    raise Refusal(3, f"bpfrec live: --control {path}: another program listens there")
+            raise refused(3, f"--control {path}: {error.strerror}") from None
+    raise refused(3, f"--control {path}: another program listens there")
 
 
 def kind_of(path: str) -> Optional[int]:
@@ -232,4 +232,4 @@ def kind_of(path: str) -> Optional[int]:
     except FileNotFoundError:
         return None
     except OSError as error:
-        raise Refusal(3, f"bpfrec live: --control {path}: {error.strerror}") from None
+        raise refused(3, f"--control {path}: {error.strerror}") from None

@@ -10,6 +10,7 @@ from bpfrec_tools.live.parts.guard import Guard
 from bpfrec_tools.live.parts.loop import Loop
 from bpfrec_tools.live.parts.recorder import Recorder
 from bpfrec_tools.live.run.engine import FILE_FAULT
+from bpfrec_tools.live.said import said
 
 
 class Audits:
@@ -32,7 +33,7 @@ class Audits:
         try:
             child = recorder.start_audit(self.bpfrec, self.guard)
         except OSError as error:
-            self.err(f"bpfrec live: {recorder.about.out} can't be audited: {error.strerror}")
+            self.err(said(f"{recorder.about.out} can't be audited: {error.strerror}"))
             self.loop.call_soon(lambda: self.end(recorder, FILE_FAULT))
             return True
         self.loop.follow(child, lambda status: self.end(recorder, status))
@@ -44,8 +45,6 @@ class Audits:
             self.err(file_fault(recorder.about.out) if line == file_fault("-") else line)
         if status > KILLED:
             number = status - KILLED
-            self.err(
-                f"bpfrec live: {self.bpfrec} audit was ended by signal {number}: {recorder.about.out} isn't audited"
-            )
+            self.err(said(f"{self.bpfrec} audit was ended by signal {number}: {recorder.about.out} isn't audited"))
         recorder.report += recorder.text("audit")
         self.audited(recorder.recording, status)

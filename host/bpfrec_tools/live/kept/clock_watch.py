@@ -13,6 +13,7 @@ from bpfrec_tools.live.kept.synchronisation import ASKED, by_chrony, by_kernel, 
 from bpfrec_tools.live.parts.loop import Loop
 from bpfrec_tools.live.parts.part import Part
 from bpfrec_tools.live.parts.recorder import Recorder
+from bpfrec_tools.live.said import said
 
 # How often the kernel is asked, and those who hold the clock right, which takes longer, in seconds.
 TICK, QUESTION_PAUSE = 1.0, 60.0
@@ -104,4 +105,4 @@ class ClockWatch(Part):
 def line_of(state: ClockState, most: Optional[float]) -> str:
     """The line of a state."""
     fault = state.fault(most)
-    return f"bpfrec live: clock: {state.text()}{f': --require-clock: {fault}' if fault else ''}"
+    return said(f"clock: {state.text()}{f': --require-clock: {fault}' if fault else ''}")

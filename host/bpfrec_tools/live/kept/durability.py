@@ -13,6 +13,7 @@ from bpfrec_tools.live.parts.events import Events
 from bpfrec_tools.live.parts.loop import Loop
 from bpfrec_tools.live.parts.part import Part
 from bpfrec_tools.live.parts.recorder import Recorder
+from bpfrec_tools.live.said import said
 
 # Why a recording isn't on its disk of which the recorder alone was told so.
 UNFORCED = "the recorder's fsync failed"
@@ -72,7 +73,7 @@ class Durability(Part):
             recorder.keeper.start()
         except (OSError, RuntimeError) as error:
             recorder.keeper = None
-            self.err(f"bpfrec live: {recorder.about.out} isn't forced to its disk, and has no facts: {error}")
+            self.err(said(f"{recorder.about.out} isn't forced to its disk, and has no facts: {error}"))
             return
         self.threads = [*(thread for thread in self.threads if thread.is_alive()), recorder.keeper]
         self.write(recorder)
@@ -120,4 +121,4 @@ class Durability(Part):
         """Tells that facts couldn't be written."""
         if not recorder.is_told and not recorder.recording.has_failed:
             recorder.is_told = True
-            self.err(f"bpfrec live: {facts_path(recorder.about.out)} can't be written")
+            self.err(said(f"{facts_path(recorder.about.out)} can't be written"))

@@ -19,6 +19,7 @@ from bpfrec_tools.live.parts.guard import Guard
 from bpfrec_tools.live.parts.loop import Loop
 from bpfrec_tools.live.parts.recorder import Recorder
 from bpfrec_tools.live.reports.observers import Observers
+from bpfrec_tools.live.said import said
 
 # What the end waits for is said after so many seconds, and again after so many.
 FIRST, PAUSE = 2.0, 10.0
@@ -43,7 +44,7 @@ class EndProgress:
             return
         self.next_at = now + PAUSE
         for what in filter(None, (awaited() for awaited in self.awaited)):
-            self.err(f"bpfrec live: waits for {what}")
+            self.err(said(f"waits for {what}"))
 
 
 class EndedRecordings:

@@ -19,6 +19,7 @@ from bpfrec_tools.live.kept.names import Files
 from bpfrec_tools.live.kept.signer import Overdue, Signer
 from bpfrec_tools.live.parts.loop import Loop
 from bpfrec_tools.live.parts.recorder import Recorder
+from bpfrec_tools.live.said import said
 
 # How many bytes are read at once.
 PIECE = 1 << 20
@@ -195,7 +196,7 @@ class Hashes:
             self.tell_unhashed(out, outcome.why_unhashed)
         if self.signer and outcome.why_unsigned is not None and not job.has_to_go:
             self.lacks_facts = self.lacks_facts or facts_path(out) not in self.without.digests
-            self.err(f"bpfrec live: {facts_path(out)} isn't signed: {outcome.why_unsigned}")
+            self.err(said(f"{facts_path(out)} isn't signed: {outcome.why_unsigned}"))
             self.unsigned(facts_path(out), outcome.why_unsigned)
         is_signed = self.signer is not None and outcome.why_unsigned is None
         job.finished((signature_path(facts_path(out)),) if is_signed else ())
@@ -204,7 +205,7 @@ class Hashes:
 
     def tell_unhashed(self, out: str, why: str) -> None:
         """Tells that a recording has no hash."""
-        self.err(f"bpfrec live: {out} has no hash in its facts: {why}")
+        self.err(said(f"{out} has no hash in its facts: {why}"))
         self.unhashed(out, why)
 
     def let_go(self, out: str, why: str, remove: Callable[[], None]) -> None:

@@ -14,6 +14,7 @@ from bpfrec_tools.live.kept.noted import Entry, Noted, note
 from bpfrec_tools.live.parts.events import Events
 from bpfrec_tools.live.parts.part import Part
 from bpfrec_tools.live.parts.recorder import Recorder
+from bpfrec_tools.live.said import said
 
 
 class Typed(NamedTuple):
@@ -56,7 +57,7 @@ class Marks(Part):
         if not fault and len(self.waiting) >= MAX_NOTED_MARKS:
             fault = f"{MAX_NOTED_MARKS:,} wait for the next recording, and no more can"
         if fault:
-            self.refuse(asker, f"bpfrec live: mark: {fault}")
+            self.refuse(asker, said(f"mark: {fault}"))
             return
         self.waiting.append(Typed(steady, moment, text, asker))
         self.note_all()
@@ -83,7 +84,7 @@ class Marks(Part):
     def finish(self) -> None:
         """The run has ended: says which marks no recording has."""
         for typed in self.waiting:
-            self.refuse(typed.asker, f"bpfrec live: mark {typed.text}: the recording has ended")
+            self.refuse(typed.asker, said(f"mark {typed.text}: the recording has ended"))
         self.waiting.clear()
 
     # ---- how
@@ -94,7 +95,7 @@ class Marks(Part):
             typed = self.waiting.popleft()
             fault = self.note(typed, self.current)
             if fault:
-                self.refuse(typed.asker, f"bpfrec live: mark {typed.text}: {fault}")
+                self.refuse(typed.asker, said(f"mark {typed.text}: {fault}"))
 
     def refuse(self, asker: Asker, text: str) -> None:
         """Says why a mark isn't noted."""

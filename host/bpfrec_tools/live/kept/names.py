@@ -9,6 +9,7 @@ import stat
 from typing import NamedTuple, Optional
 
 from bpfrec.formats.names import facts_path, signature_path
+from bpfrec_tools.live.said import said
 
 # Who may read a recording and its facts, but for what umask takes away.
 USUAL_MODE = 0o640
@@ -27,6 +28,11 @@ class Refusal(Exception):
     def what(self) -> str:
         """The same without the name of live ahead."""
         return self.line.removeprefix("bpfrec live: ")
+
+
+def refused(status: int, why: str) -> Refusal:
+    """A refusal in live's own name; others have a line of the recorder's."""
+    return Refusal(status, said(why))
 
 
 def unreadable(path: str) -> Optional[str]:
@@ -90,7 +96,7 @@ class Files(NamedTuple):
             return
         for path in (out, facts_path(out), signature_path(facts_path(out)), *beside):
             if os.path.lexists(path) and (not self.is_forced or os.path.islink(path)):
-                raise Refusal(3, f"bpfrec live: {path} is there: {advice(path, self.is_forced)}")
+                raise refused(3, f"{path} is there: {advice(path, self.is_forced)}")
         if os.path.isdir(out):
             raise Refusal(3, f"file {out}")
 
@@ -123,9 +129,9 @@ def refuse_folder(out: str) -> None:
     """Refuses an OUT in a folder that isn't there, or in which nothing can be created."""
     folder = os.path.dirname(out) or "."
     if not os.path.isdir(folder):
-        raise Refusal(3, f"bpfrec live: {out}: no such folder")
+        raise refused(3, f"{out}: no such folder")
     if not os.access(folder, os.W_OK | os.X_OK):
-        raise Refusal(3, f"bpfrec live: {out}: nothing can be created in its folder")
+        raise refused(3, f"{out}: nothing can be created in its folder")
 
 
 def refuse_long(out: str, has_facts: bool, is_signed: bool = False) -> None:
@@ -136,4 +142,4 @@ def refuse_long(out: str, has_facts: bool, is_signed: bool = False) -> None:
     most = os.pathconf(os.path.dirname(out) or ".", "PC_NAME_MAX") - (len(longest) if has_facts else 0)
     if length > most:
         beside = " with its facts beside it" if has_facts else ""
-        raise Refusal(3, f"bpfrec live: {out}: its name has {length} bytes, and may have {most}{beside}")
+        raise refused(3, f"{out}: its name has {length} bytes, and may have {most}{beside}")

@@ -14,6 +14,7 @@ from bpfrec.formats.names import facts_path
 from bpfrec_tools.live.kept.names import remove
 from bpfrec_tools.live.parts.part import Part
 from bpfrec_tools.live.parts.recorder import Recorder
+from bpfrec_tools.live.said import said
 
 # How often the room on the disk is looked at, in seconds.
 PAUSE = 1.0
@@ -94,7 +95,7 @@ class Retention(Part):
         oldest = self.kept.pop(0)
         if not oldest.is_there():
             return
-        self.err(f"bpfrec live: {oldest.out} was removed: {why}")
+        self.err(said(f"{oldest.out} was removed: {why}"))
         self.leaving += 1
         self.let_go(oldest.out, f"it was removed: {why}", lambda: self.remove(oldest))
 

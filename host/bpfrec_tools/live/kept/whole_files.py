@@ -24,6 +24,7 @@ from bpfrec_tools.live.parts import children
 from bpfrec_tools.live.parts.guard import Guard
 from bpfrec_tools.live.parts.loop import Loop
 from bpfrec_tools.live.run.engine import FILE_FAULT
+from bpfrec_tools.live.said import said
 
 # How much of what the tool told is read.
 MOST_TOLD = 1 << 16
@@ -138,7 +139,7 @@ class WholeFiles:
         except OSError as error:
             self.fail(job.out, error.strerror or str(error), FILE_FAULT)
             return
-        self.err(f"bpfrec live: {job.out}: {told}")
+        self.err(said(f"{job.out}: {told}"))
         job.kept.beside.append(job.out)
 
     def why_not_made(self, job: Job, status: int, lines: list[str]) -> str:
@@ -152,7 +153,7 @@ class WholeFiles:
     def fail(self, out: str, why: str, status: int = 0) -> None:
         """Tells that a file couldn't be made, which is no fault where its recording had to go."""
         self.status = self.status or status
-        self.err(f"bpfrec live: {out} isn't made: {why}")
+        self.err(said(f"{out} isn't made: {why}"))
 
     def finish(self, turn: Callable[[], None], is_given_up: Callable[[], bool]) -> None:
         """Waits until all are made, unless nobody waits for that any more."""

@@ -27,7 +27,7 @@ from bpfrec.formats.settings import NoReader, NoToml, Settings, settings_of
 from bpfrec.formats.settings_text import text_of
 from bpfrec_tools.live.arguments import Arguments
 from bpfrec_tools.live.flight import texts_of, without_flight
-from bpfrec_tools.live.kept.names import Refusal
+from bpfrec_tools.live.kept.names import Refusal, refused
 from bpfrec_tools.live.operands import Route
 from bpfrec_tools.live.parts import system
 from bpfrec_tools.live.parts.expressions import (
@@ -62,9 +62,9 @@ def read_settings(path: str) -> tuple[str, Settings]:
     except (OSError, UnicodeDecodeError):
         raise Refusal(3, f"file {path}") from None
     except NoReader as why:
-        raise Refusal(3, f"bpfrec live: {why}") from None
+        raise refused(3, str(why)) from None
     except NoToml as fault:
-        raise Refusal(2, f"bpfrec live: {path}: settings 1 Syntax: {fault}") from None
+        raise refused(2, f"{path}: settings 1 Syntax: {fault}") from None
 
 
 def made_settings(routes: list[Route]) -> tuple[str, Settings]:
@@ -78,14 +78,14 @@ def judge_settings(settings: Settings, given: Arguments) -> None:
     without interfaces of recordings that follow one another."""
     wanted = {it.channel for it in given.routes}
     for channel in settings.channels:
-        named = channel.table.get("id")
-        if given.is_rotating() and type(named) is int and named not in wanted:
-            what = "bpfrec live: --every and --size need an interface for each channel"
-            raise Refusal(2, f"{what}, and {named} of {given.settings} has none")
+        named = channel.id()
+        if given.is_rotating() and named is not None and named not in wanted:
+            what = "--every and --size need an interface for each channel"
+            raise refused(2, f"{what}, and {named} of {given.settings} has none")
     for route in given.routes:
         tables = [it for it in settings.channels if is_channel(it.table, route.channel)]
         if not tables:
-            raise Refusal(2, f"bpfrec live: {given.settings} has no table [[channel]] with a line id = {route.channel}")
+            raise refused(2, f"{given.settings} has no table [[channel]] with a line id = {route.channel}")
         has_filter = route.expression or given.settings is None or any(it.path("filter") for it in tables)
         if given.is_prefiltered and not has_filter:
             what = f'live: --prefilter needs a line filter = ".." of channel {route.channel}'

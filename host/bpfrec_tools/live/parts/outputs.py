@@ -12,6 +12,7 @@ from bpfrec_tools.live.parts import system
 from bpfrec_tools.live.parts.part import Part
 from bpfrec_tools.live.parts.recorder import Recorder
 from bpfrec_tools.live.parts.watches import Watches
+from bpfrec_tools.live.said import said
 
 # How often the size of a recording is looked at while it grows, in seconds.
 SIZE_PAUSE = 0.05
@@ -115,8 +116,8 @@ def moved(recorder: Recorder) -> str:
     """What is said of an OUT that isn't where it was created."""
     to = os.readlink(f"/proc/self/fd/{recorder.descriptor}")
     if to.endswith(" (deleted)"):
-        return f"bpfrec live: {recorder.about.out} was removed: it is recorded on, and gone at its end"
-    return f"bpfrec live: {recorder.about.out} was moved to {to}: it is recorded on there"
+        return said(f"{recorder.about.out} was removed: it is recorded on, and gone at its end")
+    return said(f"{recorder.about.out} was moved to {to}: it is recorded on there")
 
 
 def is_empty(recorder: Recorder) -> bool:

@@ -12,6 +12,7 @@ from bpfrec_tools.live.kept.names import is_special
 from bpfrec_tools.live.model import Recording
 from bpfrec_tools.live.parts import outputs
 from bpfrec_tools.live.parts.recorder import Recorder
+from bpfrec_tools.live.said import said
 
 # After a full disk the next recording begins once there is so much room.
 ROOM = 1 << 20
@@ -88,7 +89,7 @@ class Recordings:
         except OSError:
             self.names.give_back(number)
         if self.told_of != out and not before.has_failed and not before.has_ended():
-            self.err(f"bpfrec live: {out} can't be begun: {before.out} goes on")
+            self.err(said(f"{out} can't be begun: {before.out} goes on"))
         self.told_of = out
         return None
 

@@ -5,7 +5,7 @@ from __future__ import annotations
 from bpfrec.formats.limits import CHANNEL_KEYS, MAX_COUNTER, TICKS_A_SECOND
 from bpfrec.formats.settings import Settings, number_fault
 from bpfrec_tools.live.arguments import Arguments
-from bpfrec_tools.live.kept.names import Refusal
+from bpfrec_tools.live.kept.names import refused
 from bpfrec_tools.live.operands import Route
 
 # That of an interface where nobody says another.
@@ -35,4 +35,4 @@ def judge_spans(settings: Settings) -> None:
     for channel in settings.channels:
         fault = number_fault(channel.table.get("span", 0), CHANNEL_KEYS["span"], "span")
         if fault:
-            raise Refusal(2, f"bpfrec live: {settings.file}: {channel.name}: {fault}")
+            raise refused(2, f"{settings.file}: {channel.name}: {fault}")

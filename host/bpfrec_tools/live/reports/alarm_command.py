@@ -19,6 +19,7 @@ from bpfrec_tools.live.parts import children
 from bpfrec_tools.live.parts.loop import Loop
 from bpfrec_tools.live.parts.part import Part
 from bpfrec_tools.live.reports.console import Console
+from bpfrec_tools.live.said import said
 from bpfrec_tools.live.status.alarms import ALARM, AlarmChange
 
 # For how many seconds a program may run until TERM comes, and how much later KILL does. At the end of a run both have
@@ -58,7 +59,7 @@ class AlarmCommand(Part):
 
     def err(self, what: str) -> None:
         """Tells what is wrong with the program."""
-        self.console.err(f"bpfrec live: --on-alarm: {self.command[0]} {what}")
+        self.console.err(said(f"--on-alarm: {self.command[0]} {what}"))
 
     # ---- the program
 

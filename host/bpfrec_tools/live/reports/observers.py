@@ -12,9 +12,10 @@ from bpfrec_tools.live.parts.interruptions import UNREAD, Link
 from bpfrec_tools.live.parts.part import Part
 from bpfrec_tools.live.parts.recorder import Recorder
 from bpfrec_tools.live.run.ports import Counts, Marked, Observer, Sent, Setup
+from bpfrec_tools.live.said import said
 
 # What is said of the status where nobody observes the run.
-NOT_KEPT = "bpfrec live: status: it wasn't kept from the beginning on"
+NOT_KEPT = said("status: it wasn't kept from the beginning on")
 # How often an observer is told that time goes by, in seconds.
 TICK = 1.0
 
@@ -50,9 +51,7 @@ class Observers(Part):
         """Interfaces bring no frames from now on, or do again; one that nobody reads is reported in a line too."""
         for link in links:
             if link.away == UNREAD:
-                self.err(
-                    f"bpfrec live: {link.interface}: no recorder reads its frames, which wait for the next recording"
-                )
+                self.err(said(f"{link.interface}: no recorder reads its frames, which wait for the next recording"))
             if self.observer:
                 self.observer.linked(link.interface, link.away, time.monotonic())
 

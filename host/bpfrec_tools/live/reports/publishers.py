@@ -21,6 +21,7 @@ from bpfrec_tools.live.parts.loop import Loop
 from bpfrec_tools.live.parts.part import Part
 from bpfrec_tools.live.parts.recorder import Recorder
 from bpfrec_tools.live.run.ports import Sent
+from bpfrec_tools.live.said import said
 from bpfrec_tools.live.targets import Target
 
 # By how much it is behind what records.
@@ -51,7 +52,7 @@ class Publisher:
 
     def err(self, what: str) -> None:
         """Prints what is said of it."""
-        self.print_line(f"bpfrec live: publish {self.target.address}: {what}")
+        self.print_line(said(f"publish {self.target.address}: {what}"))
 
     def begin(self, out: str) -> None:
         """A recording has begun. The one that runs follows the recordings of a run by itself."""

@@ -9,6 +9,7 @@ import stat
 from typing import Optional
 
 from bpfrec_tools.live.reports import journal
+from bpfrec_tools.live.said import said
 
 # How long a line waits for room, in seconds; after one that had none, the next ones don't wait.
 LINE_PAUSE = 0.2
@@ -34,9 +35,7 @@ class Lines:
     def put(self, *lines: str) -> None:
         """Writes lines, or counts them as left out."""
         for line in lines:
-            if self.left_out and self.write(
-                f"bpfrec live: {self.left_out} lines were left out: standard error had no room"
-            ):
+            if self.left_out and self.write(said(f"{self.left_out} lines were left out: standard error had no room")):
                 self.left_out = 0
             if self.left_out or not self.write(line):
                 self.left_out += 1

@@ -7,6 +7,7 @@ from typing import TYPE_CHECKING
 
 from bpfrec_tools.live.model import KILLED
 from bpfrec_tools.live.parts.interruptions import FAILED, Link
+from bpfrec_tools.live.said import said
 
 if TYPE_CHECKING:
     from bpfrec_tools.live.run.run import Run
@@ -61,5 +62,5 @@ class Capturing:
         """Tells what interfaces lost in all, as the last lines: whether one did."""
         self.run.events.read()
         for lost in self.run.events.lost_in_all:
-            self.run.err(f"bpfrec live: {lost.sentence()}")
+            self.run.err(said(lost.sentence()))
         return bool(self.run.events.lost_in_all)

@@ -11,6 +11,7 @@ from bpfrec_tools.live.model import KILLED, Phase, Recording
 from bpfrec_tools.live.run.engine import FILE_FAULT, LOST, MOST_KILLS, OUTPUT_FAULT, Engine
 from bpfrec_tools.live.run.ports import Deed
 from bpfrec_tools.live.run.table import Event, State, Timer
+from bpfrec_tools.live.said import said
 
 # The statuses of capture by which it says that nothing was begun.
 NOT_BEGUN = (2, 3)
@@ -74,7 +75,7 @@ class Machine(Engine):
                 return
         if not self.plan.has_interfaces and self.is_open(self.current):
             # It waits for a feed of its own, and has recorded nothing.
-            self.err("bpfrec live: it was ended before anything was recorded")
+            self.err(said("it was ended before anything was recorded"))
             self.recorded = self.recorded or FILE_FAULT
             self.happens(Event.SIGNAL_AT_START)
             return
@@ -86,7 +87,7 @@ class Machine(Engine):
         if recording.has_failed or self.is_ending() or recording is not self.current:
             return
         recording.has_failed = True
-        what = f"bpfrec live: {recording.out} can't be written any more"
+        what = said(f"{recording.out} can't be written any more")
         if self.plan.is_rotating():
             self.err(f"{what}: the next recording begins once there is room")
             self.retries.output_failed(time)
@@ -103,7 +104,7 @@ class Machine(Engine):
         if recording.is_unforced or recording.has_failed:
             return
         recording.is_unforced = True
-        self.err(f"bpfrec live: {recording.out} can't be forced to its disk: {why}")
+        self.err(said(f"{recording.out} can't be forced to its disk: {why}"))
         self.recorded = self.recorded or OUTPUT_FAULT
         if recording is self.current:
             self.retries.output_failed(time)
@@ -127,7 +128,7 @@ class Machine(Engine):
             self.report(recording)
         elif was_killed and self.may_follow() and self.may_follow_killed():
             recording.was_killed = True
-            self.err("bpfrec live: the next recording begins")
+            self.err(said("the next recording begins"))
             self.happens(Event.RECORDER_KILLED)
         else:
             recording.phase = recording.phase if self.state is State.RETRYING else Phase.ENDING
@@ -137,7 +138,7 @@ class Machine(Engine):
         """A recorder was killed: whether a next recording begins, for which the capture keeps the frames."""
         if self.retries.recorder_killed(self.time):
             return True
-        self.err(f"bpfrec live: {MOST_KILLS} recorders in a row were killed within a minute: the recording ends")
+        self.err(said(f"{MOST_KILLS} recorders in a row were killed within a minute: the recording ends"))
         return False
 
     def capture_ended(self, status: int, time: float) -> None:
@@ -146,11 +147,9 @@ class Machine(Engine):
         self.time, self.captured = time, status
         self.timers.pop(Timer.HURRY, None)
         if status > KILLED and self.state is not State.REFUSED:
-            self.err(
-                f"bpfrec live: {self.capture_name} was ended by signal {status - KILLED}, and its interfaces with it"
-            )
+            self.err(said(f"{self.capture_name} was ended by signal {status - KILLED}, and its interfaces with it"))
         elif ends_alone:
-            self.err(f"bpfrec live: {self.capture_name} has ended, and its interfaces with it")
+            self.err(said(f"{self.capture_name} has ended, and its interfaces with it"))
             self.captured = status or 1
         if status in NOT_BEGUN and not self.is_ready:
             self.happens(Event.CAPTURE_REFUSED)
@@ -209,7 +208,7 @@ class Machine(Engine):
             return Event.CAPTURE_OVERDUE
         if not self.waits_for_reader(self.current):
             return Event.RECORDER_OVERDUE
-        self.err(f"bpfrec live: nobody reads {self.current.out}: nothing was recorded")
+        self.err(said(f"nobody reads {self.current.out}: nothing was recorded"))
         self.recorded = self.recorded or FILE_FAULT
         return Event.RECORDER_UNREAD
 
@@ -236,7 +235,5 @@ class Machine(Engine):
 
 def recorder_was_killed(name: str, out: str, number: int) -> str:
     """What is said of a recorder that a signal ended."""
-    return (
-        f"bpfrec live: {name} record was ended by signal {number}: {out} has the packets that were written until then, "
-        "which salvage copies"
-    )
+    until = f"{out} has the packets that were written until then, which salvage copies"
+    return said(f"{name} record was ended by signal {number}: {until}")

@@ -13,6 +13,7 @@ from bpfrec_tools.live.kept.names import is_special
 from bpfrec_tools.live.model import Recording
 from bpfrec_tools.live.parts.guard import open_and_close
 from bpfrec_tools.live.parts.recorder import Recorder
+from bpfrec_tools.live.said import said
 
 if TYPE_CHECKING:
     from bpfrec_tools.live.run.run import Run
@@ -32,7 +33,7 @@ class Recorders:
                 recorder.hold_place()
             child = recorder.start(run.programs.bpfrec, run.guard.all, run.guard.lifeline_of_both())
         except OSError as error:
-            run.err(f"bpfrec live: {run.programs.bpfrec} record can't be started: {error.strerror}")
+            run.err(said(f"{run.programs.bpfrec} record can't be started: {error.strerror}"))
             run.recordings.drop(recording)
             return False
         run.ended.hashes.begin(recording.number)

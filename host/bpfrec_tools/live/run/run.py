@@ -40,6 +40,7 @@ from bpfrec_tools.live.run.engine import LOST
 from bpfrec_tools.live.run.machine import Machine
 from bpfrec_tools.live.run.ports import Deed, Observer, Ports
 from bpfrec_tools.live.run.recorders import Recorders
+from bpfrec_tools.live.said import said
 from bpfrec_tools.live.status import Terminal
 
 
@@ -147,7 +148,7 @@ class Run:
         self.loop.follow(self.guard, self.end_guard)
         left = self.folder.leftovers()
         if left:
-            self.err(f"bpfrec live: left of runs that were killed, and to be removed: {' '.join(left)}")
+            self.err(said(f"left of runs that were killed, and to be removed: {' '.join(left)}"))
         self.machine.begin(time.monotonic())
         while not self.machine.is_done():
             self.turn()
@@ -228,7 +229,7 @@ class Run:
 
     def end_guard(self, status: int) -> None:
         """The guard has ended, which it does by itself only once live has."""
-        self.err(f"bpfrec live: its guard was ended by signal {status - KILLED}: all goes on without it")
+        self.err(said(f"its guard was ended by signal {status - KILLED}: all goes on without it"))
 
     # ---- what is known
 
