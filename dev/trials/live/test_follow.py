@@ -60,7 +60,8 @@ class Follower:
 
     def read(self) -> None:
         assert self.process.stdout
-        with self.process.stdout as stream:
+        # One that is killed leaves the last block in part.
+        with self.process.stdout as stream, contextlib.suppress(ValueError):
             for block in blocks_of(stream):
                 if self.leaves:
                     return

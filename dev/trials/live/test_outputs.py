@@ -65,59 +65,62 @@ def test_standard_error_that_nobody_reads_holds_up_nothing(work: Path) -> None:
     os.close(writes)
 
 
-def test_a_stopped_terminal_that_shows_lines_goes_on(work: Path, monkeypatch: pytest.MonkeyPatch) -> None:
-    """Ctrl-S stops a terminal that shows lines, and Ctrl-Q lets it go on."""
-    monkeypatch.setenv("TERM", "dumb")
-    master, slave = pty.openpty()
+class AtTerminal:
+    """A run at a terminal of a kind, which Ctrl-S stops, with what it shows."""
+
+    def __init__(self, work: Path, kind: str, out: Path) -> None:
+        self.master, self.slave = pty.openpty()
+        os.set_blocking(self.master, False)
+        words = [LIVE, settings_of(work), out, "rx0=1", "rx1=2"]
+        self.running = Running(work, *words, stderr=self.slave, adds={"TERM": kind})
+        self.shown = b""
+
+    def wait_until_shown(self, pattern: bytes) -> None:
+        def is_shown() -> bool:
+            with contextlib.suppress(BlockingIOError):
+                self.shown += os.read(self.master, 4096)
+            return re.search(pattern, self.shown) is not None
+
+        wait_for(lambda: f"{pattern!r} is shown: {self.shown!r}", is_shown, 10)
+
+    def press(self, key: bytes) -> None:
+        os.write(self.master, key)
+
+    def end(self) -> None:
+        os.kill(self.running.process.pid, signal.SIGTERM)
+
+    def close(self) -> None:
+        os.close(self.master)
+        os.close(self.slave)
+
+
+def test_a_stopped_terminal_that_shows_lines_goes_on(work: Path) -> None:
+    """Ctrl-S stops a terminal that shows lines, and Ctrl-Q lets it go on: then those that were left out are counted."""
     out = work / "stopped.ch11"
-    running = Running(work, LIVE, settings_of(work), out, "rx0=1", "rx1=2", stderr=slave)
-    shown: list[bytes] = []
-
-    def read() -> bool:
-        with contextlib.suppress(BlockingIOError):
-            shown.append(os.read(master, 4096))
-        return b"lines were left out: standard error had no room" in b"".join(shown)
-
-    os.set_blocking(master, False)
+    terminal = AtTerminal(work, "dumb", out)
     wait_for("it records at a terminal", out.exists, 10)
-    os.write(master, CTRL_S)
+    terminal.press(CTRL_S)
     send_together(0, MANY)
     time.sleep(2.2)
-    os.write(master, CTRL_Q)
-    wait_for(lambda: f"lines that were left out are counted: {b''.join(shown)!r}", read, 10)
-    judge(
-        "lines that a stopped terminal didn't take are counted",
-        re.search(rb"capture: [1-9]\d* lines were left out: standard error had no room\r?\n", b"".join(shown)),
-    )
-    os.write(master, CTRL_S)
-    os.kill(running.process.pid, signal.SIGTERM)
-    judge_all_recorded("a stopped terminal", work, running, out)
-    os.close(master)
-    os.close(slave)
+    terminal.press(CTRL_Q)
+    terminal.wait_until_shown(rb"capture: [1-9]\d* lines were left out: standard error had no room\r?\n")
+    terminal.press(CTRL_S)
+    terminal.end()
+    judge_all_recorded("a stopped terminal", work, terminal.running, out)
+    terminal.close()
 
 
-def test_a_stopped_terminal_that_shows_a_table_holds_up_nothing(work: Path, monkeypatch: pytest.MonkeyPatch) -> None:
+def test_a_stopped_terminal_that_shows_a_table_holds_up_nothing(work: Path) -> None:
     """Ctrl-S stops a terminal that shows a table, and nobody lets it go on."""
-    monkeypatch.setenv("TERM", "xterm")
-    master, slave = pty.openpty()
     out = work / "table.ch11"
-    running = Running(work, LIVE, settings_of(work), out, "rx0=1", "rx1=2", stderr=slave)
-    shown: list[bytes] = []
-
-    def read() -> bool:
-        with contextlib.suppress(BlockingIOError):
-            shown.append(os.read(master, 4096))
-        return re.search(rb"(?<!NOT )RECORDING", b"".join(shown)) is not None
-
-    os.set_blocking(master, False)
-    wait_for(lambda: f"the table is there: {b''.join(shown)!r}", read, 10)
-    os.write(master, CTRL_S)
+    terminal = AtTerminal(work, "xterm", out)
+    terminal.wait_until_shown(rb"(?<!NOT )RECORDING")
+    terminal.press(CTRL_S)
     send_together(0, MANY)
     time.sleep(2.2)
-    os.kill(running.process.pid, signal.SIGTERM)
-    judge_all_recorded("a stopped table", work, running, out)
-    os.close(master)
-    os.close(slave)
+    terminal.end()
+    judge_all_recorded("a stopped table", work, terminal.running, out)
+    terminal.close()
 
 
 # ---- OUT that is there

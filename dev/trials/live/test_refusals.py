@@ -140,8 +140,6 @@ def test_a_filter_that_can_not_be_installed_is_refused_ahead_by_its_channel(work
 
 
 def test_times_and_sizes_have_units(work: Path) -> None:
-    pass
-
     from bpfrec_tools.live import arguments
 
     given = arguments.read(["o.ch11", "rx0", "--every", "10m", "--size", "2G", "--sync", "5s", "--keep-free", "10k"])
