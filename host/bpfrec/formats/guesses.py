@@ -4,19 +4,11 @@ from __future__ import annotations
 
 import os
 
-from bpfrec.formats.limits import HEADER_LEN
-from bpfrec.formats.packet import SYNC, header_fault
-
 # The first bytes of captures: of pcap in microseconds and nanoseconds, by both byte orders, and of pcapng.
 CLASSIC = {bytes.fromhex(it) for it in ("a1b2c3d4", "a1b23c4d", "d4c3b2a1", "4d3cb2a1")}
 PCAPNG = bytes.fromhex("0a0d0d0a")
 # So many of a file's first bytes are looked at.
 HEAD_LEN = 64
-
-
-def begins_recording(head: bytes) -> bool:
-    """Whether bytes begin with the header of a packet."""
-    return len(head) >= HEADER_LEN and head[: len(SYNC)] == SYNC and header_fault(head[:HEADER_LEN]) is None
 
 
 def guess_of(head: bytes) -> str:
