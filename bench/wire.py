@@ -7,7 +7,7 @@ It makes a network namespace with a pair of virtual interfaces, sends frames of 
 one of them as fast as bin/send_frames can, and records what the other receives: by bpfrec live, with a filter
 that keeps all and one that keeps a 32nd, which the kernel runs too with --prefilter; and by `dumpcap -w` and
 `tcpdump -w`, which take all or have the kernel drop what the same filter drops. Each has 256 MiB of the kernel's
-buffer. Then it makes a feed of a capture of as many frames, by convert and by `capture -r`.
+buffer. Then it makes a feed of a capture of as many frames by `capture -r`.
 
 With --part syncs it records by bpfrec live alone, forced to the disk each second (the default), and only at the end
 (`--sync 0`, told as before), in turn: what the syncs cost. With --part spans the same of spans.
@@ -43,7 +43,7 @@ sys.path.insert(0, str(ROOT / "dev/trials/lib"))
 import namespace
 from frames import HEAD
 
-LIVE, FOLLOW, FEED = (ROOT / "dev/trials/lib/tools" / it for it in ("live", "follow", "convert"))
+LIVE, FOLLOW = (ROOT / "dev/trials/lib/tools" / it for it in ("live", "follow"))
 CAPTURE, SENDER = ROOT / "bin/capture", ROOT / "bin/send_frames"
 WANTED = {"ip": "iproute2", "tcpdump": "tcpdump", "dumpcap": "wireshark-common"}
 INSIDE = "BPFREC_WIRE_INSIDE"
@@ -324,7 +324,6 @@ def time_files(work: Path, frames: int, rounds: int) -> None:
         write_capture(capture, length, frames)
         programs: dict[str, list[object]] = {
             "capture -r": [CAPTURE, "-r", f"{capture}={feed}"],
-            "convert": [FEED, "from-pcap", capture, feed],
             "cp": ["cp", capture, feed],
         }
         runs: dict[str, list[tuple[float, float]]] = {name: [] for name in programs}

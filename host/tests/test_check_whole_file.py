@@ -5,13 +5,13 @@ from __future__ import annotations
 import datetime
 import hashlib
 import random
-import subprocess
 from fractions import Fraction
 
 import pytest
 from drawn_recording import DrawnRecording
 from reading import SAMPLES
-from support import CHECK_SUMS, judge, judge_quietly
+from second_opinion import opinion_of
+from support import judge, judge_quietly
 from whole_file import TIME, Origin, Refused, Setup, whole_file
 from whole_file_clock import Rule, rules_of
 from whole_file_parts import ORIGIN, SECOND, bytes_of, parts_of, recorded, sample, without
@@ -19,12 +19,6 @@ from whole_file_parts import ORIGIN, SECOND, bytes_of, parts_of, recorded, sampl
 DAY = 86_400
 # The sum of the file of the recording of 248 bytes with this origin.
 ONE_SUM = "bc7788fb6bd5a9b95dc6af282ea8a3d1a4b274476766c991a927b7373ea32e74"
-
-
-def checked(data: bytes, *options: str) -> tuple[int, list[str]]:
-    """How the tool ends, and the lines that it prints."""
-    done = subprocess.run([CHECK_SUMS, *options, "-"], input=data, capture_output=True, timeout=60)
-    return done.returncode, done.stdout.decode().splitlines()
 
 
 # ---- what is right
@@ -37,7 +31,8 @@ def test_the_file_of_the_least_recording_is_right() -> None:
     moment = "2025-12-01T12:00:00.2500033Z"
     lines = [f"{moment} 1 18 channel 1", f"channel 1 packets 1 frames 1 {moment} {moment} channel 1"]
     lines += ["packets 8 times 1 records 3 index 2 wrong 0"]
-    judge("what it says", checked(bytes(found.data), "--frames") == (0, lines), checked(bytes(found.data), "--frames"))
+    opinion = opinion_of(bytes(found.data), True)
+    judge("what it says", opinion == (True, lines), opinion)
 
 
 def test_a_file_of_some_channels_has_a_line_for_each() -> None:
@@ -46,15 +41,15 @@ def test_a_file_of_some_channels_has_a_line_for_each() -> None:
         "channel 9 packets 4 frames 8 2025-12-01T12:00:00.2509001Z 2025-12-01T12:00:06.2509501Z wing 9",
         "packets 23 times 7 records 5 index 2 wrong 0",
     ]
-    judge("its lines", checked(sample()) == (0, lines), checked(sample()))
+    judge("its lines", opinion_of(sample()) == (True, lines), opinion_of(sample()))
 
 
-def test_what_is_wrong_stands_ahead_with_status_1() -> None:
-    status, lines = checked(bytes_of(without(TIME, 2)(parts_of(sample()))))
-    judge("its status", status == 1 and lines[-1].endswith(" wrong 6"), lines)
+def test_what_is_wrong_stands_ahead() -> None:
+    is_right, lines = opinion_of(bytes_of(without(TIME, 2)(parts_of(sample()))))
+    judge("it is not right", not is_right and lines[-1].endswith(" wrong 6"), lines)
     judge("the missing second", "2304 a time packet is missing ahead of it" in lines, lines)
-    status, lines = checked(b"a text of no packets at all")
-    judge("no packet", (status, lines[0]) == (1, "0 no sync pattern"), lines)
+    is_right, lines = opinion_of(b"a text of no packets at all")
+    judge("no packet", (is_right, lines[0]) == (False, "0 no sync pattern"), lines)
 
 
 @pytest.mark.parametrize("seed", range(8))
@@ -65,8 +60,8 @@ def test_frames_have_the_times_of_their_clock(seed: int) -> None:
     made = recorded(draw, channels, 5 * SECOND, 20)
     noted = [Origin(it, ORIGIN + draw.randrange(-(10**12), 10**12)) for it in draw.choices(range(25 * SECOND), k=3)]
     setup = Setup((Origin(draw.randrange(30 * SECOND), ORIGIN), *noted))
-    status, printed = checked(bytes(whole_file(bytes(made.data), setup).data), "--frames")
-    judge_quietly("it is right", status == 0, printed[-3:])
+    is_right, printed = opinion_of(bytes(whole_file(bytes(made.data), setup).data), True)
+    judge_quietly("it is right", is_right, printed[-3:])
     lines = [line.split(" ") for line in printed if line[0].isdecimal()]
     rules = rules_of(setup.origins)
     for channel in channels:

@@ -289,9 +289,12 @@ def test_what_has_no_transfer_header_is_none() -> None:
 
 def given_to(files: Files, data: bytes) -> None:
     """Gives a receiver's file the packets of a whole file."""
-    for part in parts_of(data):
-        packet = part.bytes()
-        files.take(Header(part.channel, len(packet), len(part.data), 8, part.sequence, 3, part.kind, 0), packet)
+    at = 0
+    while at < len(data):
+        channel, length, data_length = struct.unpack_from("<HII", data, at + 2)
+        header = Header(channel, length, data_length, 8, data[at + 13], 3, data[at + 15], 0)
+        files.take(header, data[at : at + length])
+        at += length
 
 
 def test_a_file_is_the_stream(work: Path) -> None:

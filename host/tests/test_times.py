@@ -17,7 +17,6 @@ from bpfrec_tools.cli.moments import first_from, last_to, moment_of, time_of_day
 from bpfrec_tools.cli.streams import Refused
 from bpfrec_tools.export.times import Asked, beginning_of, dated, time_of
 from bpfrec_tools.live.arguments import read
-from conversion import moments
 from expected_facts import UNKNOWN_SCALE, facts_of_run
 from support import SECOND, judge, judge_quietly
 
@@ -154,9 +153,8 @@ ODD_DAYS: tuple[object, ...] = (
 
 def test_an_origin_of_a_capture_file_needs_its_date() -> None:
     why = "23:36:10.5 has no date, and no facts give one here: it takes that too, as 2025-12-01T23:36:10.5Z"
-    for call in (moment_of, moments.origin_of):
-        with pytest.raises(argparse.ArgumentTypeError, match=f"^{why}$"):
-            call("23:36:10.5")
+    with pytest.raises(argparse.ArgumentTypeError, match=f"^{why}$"):
+        moment_of("23:36:10.5")
     judge("by its name", True)
 
 

@@ -10,10 +10,10 @@ from pathlib import Path
 import pytest
 from frames import records
 from namespace import make_pair, take_away
+from sample_feeds import capture_of, sample_feed
 from support import (
     BPFREC,
     CAPTURE,
-    CONVERT,
     LIBRARY,
     NOBODY,
     Reader,
@@ -90,8 +90,7 @@ def refusing(work: Path, call: object, spared: int = 0) -> dict[str, str]:
 @pytest.mark.parametrize("call", GIVING_UP)
 def test_nothing_begins_with_privileges_that_cannot_be_given_up(work: Path, call: object) -> None:
     """Nothing begins with privileges that can't be given up: neither a capture nor a conversion."""
-    run(CONVERT, "make", 1, 3, work / "three.feed")
-    run(CONVERT, "to-pcap", work / "three.feed", work / "three.pcap")
+    capture_of(sample_feed(work / "three.feed", 1, 3), work / "three.pcap")
     for words in (["rx0=-"], ["-r", f"{work}/three.pcap={work}/made.feed"]):
         running = Running(work, CAPTURE, *words, adds=refusing(work, call))
         ended = running.ended()
@@ -102,8 +101,7 @@ def test_nothing_begins_with_privileges_that_cannot_be_given_up(work: Path, call
 
 def test_without_privileges_files_are_converted(work: Path) -> None:
     """Who has none has none to give up: files are converted also where the kernel refuses each such call."""
-    run(CONVERT, "make", 1, 3, work / "three.feed")
-    run(CONVERT, "to-pcap", work / "three.feed", work / "three.pcap")
+    capture_of(sample_feed(work / "three.feed", 1, 3), work / "three.pcap")
     adds = refusing(work, "capset")
     for path in (work, *work.iterdir()):
         path.chmod(0o777)

@@ -12,7 +12,8 @@ from typing import BinaryIO, cast
 
 from frames import HEAD, feed_of, with_check_sequence
 from recorder import RECORDINGS, record, write_settings
-from support import CONVERT, ROOT, judge_quietly, run
+from sample_feeds import sample_feed
+from support import ROOT, judge_quietly
 
 sys.path.insert(0, str(ROOT / "host"))
 from bpfrec.formats.packet import Packet
@@ -80,7 +81,7 @@ def odd_feed(draw: random.Random) -> bytes:
 def recording_of_three(work: Path) -> Path:
     """A recording of three channels: one that keeps all, one that drops some, one with odd counters."""
     for channel, frames in ((1, 3_000), (2, 500)):
-        run(CONVERT, "make", channel, frames, work / f"{channel}.feed")
+        sample_feed(work / f"{channel}.feed", channel, frames)
     (work / "3.feed").write_bytes(odd_feed(random.Random(SEED)))
     (work / "some").write_text("4,48 0 0 21,69 0 1 1,6 0 0 1,6 0 0 0,")
     settings = write_settings(work, ["1.feed", "2.feed", "3.feed"], ["all", "some", "all"], "three.toml")

@@ -7,7 +7,8 @@ from pathlib import Path
 from typing import Any
 
 from joined_file import Table, joined_file
-from support import BPFREC, CHECK_SUMS, judge_quietly, outcome
+from second_opinion import opinion_at
+from support import BPFREC, judge_quietly, outcome
 from whole_file import File, Refused, Setup, whole_file
 
 NANOSECONDS = 10**9
@@ -109,6 +110,6 @@ def judge_made(work: Path, what: str, recordings: list[bytes], setup: Table) -> 
     """The file is that of the second writer, and right for the reader of such files: the line that was printed."""
     line = judge_joined(work, what, recordings, setup)
     judge_quietly(f"{what}: not refused", line.startswith("times "), line)
-    done = outcome(CHECK_SUMS, work / "flight.ch10", seconds=300)
-    judge_quietly(f"{what}: as check_sums reads it", done.returncode == 0 and done.stdout.endswith(" wrong 0\n"), done)
+    opinion = opinion_at(work / "flight.ch10")
+    judge_quietly(f"{what}: by a second opinion", opinion.is_right, opinion.lines[:3])
     return line

@@ -12,10 +12,10 @@ import pytest
 from frames import numbered, numbers, records
 from namespace import send, send_numbered, send_together
 from recordings import YES, extracted, nothing_left, settings_of_one, write_settings
+from sample_feeds import sample_feed
 from support import (
     BPFREC,
     CAPTURE,
-    CONVERT,
     LIVE,
     MILLISECOND,
     NOBODY,
@@ -28,7 +28,6 @@ from support import (
     outcome,
     pipe_at,
     present,
-    run,
 )
 
 WANTED = ("bin/bpfrec", "bin/capture", "ip")
@@ -40,7 +39,7 @@ FRAMES = 5_000
 
 def test_two_interfaces_are_recorded_with_a_changed_filter(work: Path) -> None:
     """Two interfaces, of which one's filter is changed meanwhile, and a channel with a feed of its own."""
-    run(CONVERT, "make", 1, 50, work / "own.feed")
+    sample_feed(work / "own.feed", 1, 50)
     settings = write_settings(
         work,
         f'id = 1\nfilter = "{work}/all"\nfeed = "nowhere" # this line gives way',

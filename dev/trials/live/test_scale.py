@@ -14,11 +14,10 @@ from clock import Sender, capture_with, off, preloaded
 from expected_facts import moments_by, origins_in
 from frames import numbers, records
 from namespace import make_pair, take_away, wait_until_up
-from pcapng import times_of
 from recordings import YES, begin, extracted, facts_of
 from rows import printed
 from seen_frames import made, seen_in
-from support import CAPTURE, CONVERT, INFO, MILLISECOND, SECOND, Reader, Running, judge, pipe_at, run, wait_for
+from support import CAPTURE, INFO, MILLISECOND, SECOND, Reader, Running, judge, pipe_at, run, wait_for
 
 WANTED = ("bin/bpfrec", "bin/capture", "ip", "cc", "pcap-config", "tshark", "editcap")
 pytestmark = [pytest.mark.timed, pytest.mark.usefixtures("namespace")]
@@ -53,12 +52,6 @@ def by_page_of_formats(work: Path, out: Path) -> list[int]:
     return moments_by(origins_in(facts_of(out)), [it.counter for it in records(extracted(work, out, 1))])
 
 
-def by_convert(work: Path, out: Path) -> list[int]:
-    extracted(work, out, 1)
-    run(CONVERT, "to-pcap", "--force", "--facts", f"{out}.json", work / "extracted.feed", work / "by.pcap")
-    return times_of((work / "by.pcap").read_bytes())
-
-
 def by_pcapng(work: Path, out: Path) -> list[int]:
     return [it.moment for it in seen_in(made(work, "--channel", 1, out))]
 
@@ -79,7 +72,6 @@ def moment_in(utc: str) -> int:
 
 READERS: dict[str, Callable[[Path, Path], list[int]]] = {
     "formats": by_page_of_formats,
-    "convert": by_convert,
     "pcapng": by_pcapng,
     "plugin": by_plugin,
     "info": lambda _, out: [moment_in(it) for it in ends_by_info(out)],

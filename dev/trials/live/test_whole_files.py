@@ -11,7 +11,8 @@ from frames import numbers_in, records
 from ground import Station
 from namespace import send_numbered
 from recordings import Traffic, begin, extracted, is_approved, nothing_left, parts_of, recordings, settings_of
-from support import BPFREC, CHECK_SUMS, LIVE, Running, judge, judge_quietly, outcome, wait_for
+from second_opinion import opinion_at
+from support import BPFREC, LIVE, Running, judge, judge_quietly, wait_for
 
 WANTED = ("bin/bpfrec", "bin/capture", "ip")
 pytestmark = [pytest.mark.timed, pytest.mark.usefixtures("namespace")]
@@ -28,8 +29,8 @@ def in_work(out: Path) -> Path:
 
 def judge_whole(work: Path, out: Path) -> None:
     """The file beside a recording is right, and has its frames."""
-    done = outcome(CHECK_SUMS, whole_file(out))
-    judge_quietly(f"{out.name}: it is right", done.returncode == 0, done.stdout[-300:])
+    opinion = opinion_at(whole_file(out))
+    judge_quietly(f"{out.name}: it is right", opinion.is_right, opinion.lines[:3])
     for channel in (1, 2):
         feeds = [extracted(work, it, channel) for it in (out, whole_file(out))]
         judge_quietly(f"{out.name}: frames of channel {channel}", feeds[0] == feeds[1])

@@ -11,7 +11,8 @@ import pytest
 from drawn_recording import DrawnRecording, drawn_insns
 from frames import FRAMES, body_of, packet_of
 from reading import SAMPLES
-from support import CHECK_SUMS, judge, judge_quietly, outcome
+from second_opinion import opinion_at
+from support import judge, judge_quietly
 from whole_file import Origin, Setup
 from whole_file_parts import recorded
 from whole_file_trials import chapter11, judge_file
@@ -25,17 +26,12 @@ ONE_SUM = "bc7788fb6bd5a9b95dc6af282ea8a3d1a4b274476766c991a927b7373ea32e74"
 NOW = Setup((Origin(0, ORIGIN),))
 
 
-def checked(work: Path) -> tuple[int, str]:
-    done = outcome(CHECK_SUMS, work / "flight.ch10", seconds=300)
-    return done.returncode, done.stdout + done.stderr
-
-
 def judge_whole(work: Path, what: str, data: bytes, setup: Setup = NOW) -> str:
     """The file is that of the second writer, and right for the reader of such files: the line that was printed."""
     line = judge_file(work, what, data, setup)
     judge_quietly(f"{what}: not refused", line.startswith("times "), line)
-    status, told = checked(work)
-    judge_quietly(f"{what}: as check_sums reads it", status == 0 and told.endswith(" wrong 0\n"), told[-300:])
+    opinion = opinion_at(work / "flight.ch10")
+    judge_quietly(f"{what}: by a second opinion", opinion.is_right, opinion.lines[:3])
     return line
 
 

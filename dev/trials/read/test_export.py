@@ -13,6 +13,7 @@ from pathlib import Path
 
 import pytest
 from captures import fields_of
+from conversion.runs import Converted
 from damage import damaged
 from exports import Shown, wanted_of
 from frames import FRAMES, HEAD, body_of, packet_of, program_packet, with_check_sequence
@@ -20,7 +21,7 @@ from pcapng_blocks import COMMENT, INTERFACE, blocks_in
 from reading import SAMPLES, SEED, packets_of, recording_of_three
 from recorder import RECORDINGS, extracted
 from rows import AS_ROOT, TICKS_A_SECOND, drawn_recording, flight_of, seconds_of
-from support import BPFREC, CONVERT, judge, judge_quietly, outcome, present, run
+from support import BPFREC, judge, judge_quietly, outcome, present, run
 
 WANTED = ("bin/bpfrec", "tshark", "capinfos", "tcpdump", "scapy")
 # Prints the time of each packet of a capture in units, the units of a second, and its bytes.
@@ -127,13 +128,11 @@ def test_a_comment_has_the_first_and_last_of_several_versions(work: Path) -> Non
     judge(f"{len(one)} comments on one version, {len(several)} on several", one and several and "" in comments)
 
 
-def test_convert_makes_of_an_export_the_feeds_of_extract(work: Path, three: Path) -> None:
-    """The converter makes of each interface the feed that `extract` gives, marks and all."""
+def test_a_second_opinion_reads_the_feeds_of_extract(work: Path, three: Path) -> None:
+    """Of each interface the feed that `extract` gives, marks and all."""
     out = exported(work, three)
     for number, channel in enumerate(wanted_of(three.read_bytes()).numbers):
-        words = ["from-pcap", "--force", "--origin", "zero", "--interface", number]
-        run(CONVERT, *words, out, work / "back.feed")
-        same = (work / "back.feed").read_bytes() == extracted(three, channel, work / "one.feed")
+        same = Converted(out, 0, number).feed == extracted(three, channel, work / "one.feed")
         judge(f"the feed of channel {channel}", same)
 
 

@@ -14,7 +14,8 @@ import pytest
 from bpfrec.formats.body import BadBody, other_frames, walk
 from frames import body_of, program_packet
 from reading import SAMPLES, facts_of, recording_of_three
-from support import BPFREC, CONVERT, INFO, judge, judge_quietly, outcome, run
+from sample_feeds import capture_of
+from support import BPFREC, INFO, judge, judge_quietly, outcome, run
 
 WANTED = ("bin/bpfrec", "capinfos", "tshark")
 # A second in a recording's ticks.
@@ -53,7 +54,7 @@ def test_numbers_are_those_of_capinfos_and_tshark(work: Path, recording: Path, f
     """What info says of a channel beside what capinfos and tshark say of its frames."""
     said, pcap = facts["channels"][channel], work / "x.pcap"
     run(BPFREC, "extract", recording, channel, work / "x.feed")
-    run(CONVERT, "to-pcap", "--origin", "zero", work / "x.feed", pcap)
+    capture_of(work / "x.feed", pcap)
     frames, size, seconds, first, last, rate = capinfos(pcap)
     moments = [said["least_counter"] / 1e7, said["greatest_counter"] / 1e7]
     judge(

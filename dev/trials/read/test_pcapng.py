@@ -11,6 +11,7 @@ from pathlib import Path
 
 import pytest
 from captures import fields_of
+from conversion.runs import Converted
 from expected_facts import BEFORE_1970, THREE_ORIGINS, facts_of_run
 from frames import FRAMES, body_of, end_packet, numbered, packet_of, program_packet, records, with_check_sequence
 from pcapng_blocks import COMMENT, INTERFACE, NAME, PACKET, Block, blocks_in
@@ -18,7 +19,7 @@ from reading import SAMPLES, SEED, recording_of_three
 from recorder import RECORDINGS, extracted
 from rows import drawn_recording, flight_of
 from seen_frames import channels_of, feeds_of, judge_whole, made, seen_in
-from support import BPFREC, CONVERT, EXPORT, LIBRARY, judge, judge_quietly, outcome, pipe_at, run, shared_library
+from support import BPFREC, EXPORT, LIBRARY, judge, judge_quietly, outcome, pipe_at, run, shared_library
 
 WANTED = ("bin/bpfrec", "tshark", "capinfos", "tcpdump", "cc")
 DRAWN = 10
@@ -106,25 +107,16 @@ def test_tshark_finds_wrong_those_that_are_marked(work: Path, three: Path) -> No
     judge(f"tshark finds {wrong} wrong check sequences", len(done.stdout.splitlines()) == wrong > 0)
 
 
-def test_the_converter_reads_the_same_feed_of_it(work: Path, three: Path) -> None:
-    """The converter reads the same feed of it, with its marks."""
-    capture = made(work, "--channel", 3, three)
-    run(CONVERT, "from-pcap", "--origin", "zero", capture, work / "back.feed")
-    judge(
-        "the feed of a channel, marks and all",
-        (work / "back.feed").read_bytes() == extracted(three, 3, work / "3.feed"),
-    )
+def test_a_second_opinion_reads_the_same_feed_of_it(work: Path, three: Path) -> None:
+    """With its marks."""
+    found = Converted(made(work, "--channel", 3, three), 0)
+    judge("the feed of a channel, marks and all", found.feed == extracted(three, 3, work / "3.feed"), found.said)
     marked = [(at * 100, at % 4, with_check_sequence(numbered(at))) for at in range(8)]
     words = {0: 0, 1: 1 << 31, 2: 1 << 30, 3: 3 << 30}
-    parts = [
-        program_packet(1, 0),
-        packet_of(1, body_of([(at, words[it], frame) for at, it, frame in marked]), 0, FRAMES, 0, True),
-    ]
-    (work / "marked.ch11").write_bytes(b"".join(parts))
-    run(CONVERT, "from-pcap", "--force", "--origin", "zero", made(work, work / "marked.ch11"), work / "back.feed")
-    judge(
-        "all four marks", [it.marks for it in records((work / "back.feed").read_bytes())] == [it for _, it, _ in marked]
-    )
+    body = body_of([(at, words[it], frame) for at, it, frame in marked])
+    (work / "marked.ch11").write_bytes(program_packet(1, 0) + packet_of(1, body, 0, FRAMES, 0, True))
+    found = Converted(made(work, work / "marked.ch11"), 0)
+    judge("all four marks", [it.marks for it in records(bytes(found.feed or b""))] == [it for _, it, _ in marked])
 
 
 # ---- what the blocks say

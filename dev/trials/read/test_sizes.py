@@ -12,7 +12,8 @@ from typing import NamedTuple
 import pytest
 from exports import wanted_of
 from frames import body_of, end_packet, packet_of, program_packet, records
-from support import BPFREC, CHECK_SUMS, EXPORT, INFO, SALVAGE, judge, outcome, run, sums
+from second_opinion import opinion_at
+from support import BPFREC, EXPORT, INFO, SALVAGE, judge, outcome, run, sums
 
 WANTED = ("bin/bpfrec",)
 PATIENCE = 240
@@ -108,7 +109,7 @@ def test_chapter11_writes_all_or_names_the_first_other(made: Made, work: Path) -
     told = run(BPFREC, "chapter11", made.plain, work / "setup.toml", work / "all.ch10", seconds=PATIENCE)
     counts = dict(zip(told.split()[::2], map(int, told.split()[1::2])))
     judge("counts", (counts["packets"], counts["records"]) == (sum(made.frames.values()), 2 * len(CHANNELS)), told)
-    judge("a whole file", outcome(CHECK_SUMS, work / "all.ch10", seconds=PATIENCE).returncode == 0)
+    judge("a whole file", opinion_at(work / "all.ch10").is_right)
     done = outcome(BPFREC, "chapter11", made.mixed, work / "setup.toml", work / "none.ch10", seconds=PATIENCE)
     judge("refused", done.stdout == f"refused 1 Other {made.plain.stat().st_size}\n", done)
 

@@ -12,14 +12,14 @@ import pytest
 from disks import memory_disk
 from frames import counted_feed
 from recorder import RECORD_LENGTH, RECORDINGS, begin, make_feed, record, write_settings
-from support import BPFREC, CONVERT, EXPORT, SALVAGE, judge, judge_quietly, outcome, present, run
+from support import BPFREC, EXPORT, SALVAGE, judge, judge_quietly, outcome, present
 
 WANTED = ("bin/bpfrec", "cc")
 SAMPLE = RECORDINGS / "two_versions.ch11"
 FRAMES = 100
 # Those that lock OUT, and those that do not.
 LOCKING = ("record", "extract", "upgrade", "extract_of_input", "upgrade_of_input", "chapter11")
-TOOLS = ("salvage", "pcapng", "from-pcap", "to-pcap", "make")
+TOOLS = ("salvage", "pcapng")
 # How a file is opened that is written and not emptied, and how it is locked: alone, and without waiting.
 TO_WRITE, AT_ONCE = 1, 6
 # Stands for OUT among the words of a command.
@@ -49,8 +49,7 @@ class Command(NamedTuple):
 
 def commands(work: Path) -> dict[str, Command]:
     """Each command and tool that writes a file."""
-    feed = make_feed(work / "own.feed", FRAMES)
-    run(CONVERT, "to-pcap", feed, work / "own.pcap")
+    make_feed(work / "own.feed", FRAMES)
     (work / "setup.toml").write_text('origin = "1764590400"\n')
     return {
         "record": Command([BPFREC, "record", write_settings(work, ["own.feed"], ["all"]), OUT]),
@@ -61,9 +60,6 @@ def commands(work: Path) -> dict[str, Command]:
         "chapter11": Command([BPFREC, "chapter11", SAMPLE, work / "setup.toml", OUT]),
         "salvage": Command([SALVAGE, "--force", SAMPLE, OUT]),
         "pcapng": Command([EXPORT, "--as=pcapng", "--force", SAMPLE, OUT]),
-        "from-pcap": Command([CONVERT, "from-pcap", "--force", work / "own.pcap", OUT]),
-        "to-pcap": Command([CONVERT, "to-pcap", "--force", feed, OUT]),
-        "make": Command([CONVERT, "make", "--force", "1", FRAMES, OUT]),
     }
 
 

@@ -1,4 +1,4 @@
-"""Tries convert and `capture -r` on captures whose first frame isn't the earliest, and on those of which nothing
+"""Tries `capture -r` on captures whose first frame isn't the earliest, and on those of which nothing
 can be taken."""
 
 from __future__ import annotations
@@ -7,10 +7,9 @@ import gzip
 import struct
 from pathlib import Path
 
-import pytest
 from frames import counters
 from pcapng import MICROSECONDS, capture_head, captured
-from support import CAPTURE, CONVERT, as_given, judge, outcome, run
+from support import CAPTURE, judge, outcome, run
 
 WANTED = ("bin/capture",)
 SECOND = 1_764_590_400
@@ -18,23 +17,19 @@ SECOND = 1_764_590_400
 MOMENTS = (100_010, 100_005, 100_020)
 UNORDERED = capture_head(MICROSECONDS) + b"".join(captured(SECOND, it, bytes(60)) for it in MOMENTS)
 BEFORE = "1 frames are before the origin, and 325 days late: --origin 1764590400.100005000 has none"
-TOOLS = ("convert", "capture")
 
 
-def feed_by(tool: str, work: Path, data: bytes, *words: object) -> tuple[int, str, list[int]]:
+def feed_of(work: Path, data: bytes, *words: object) -> tuple[int, str, list[int]]:
     """The status of a capture's conversion, what is said of the file, and the feed's counters."""
     (work / "in.pcap").write_bytes(data)
     feed = work / "out.feed"
-    ways = {"convert": [CONVERT, "from-pcap", "--force", *words, "in.pcap", feed]}
-    ways["capture"] = [CAPTURE, *words, "-r", f"in.pcap={feed}"]
-    done = outcome(*ways[tool], cwd=work)
+    done = outcome(CAPTURE, *words, "-r", f"in.pcap={feed}", cwd=work)
     said = [it.partition("in.pcap: ")[2] for it in done.stderr.splitlines() if "in.pcap: " in it]
     return done.returncode, "\n".join(said), counters(feed.read_bytes()) if feed.exists() else []
 
 
-@pytest.mark.parametrize("tool", TOOLS)
-def test_counter_0_is_the_earliest_frame_of_a_file(work: Path, tool: str) -> None:
-    found = feed_by(tool, work, UNORDERED)
+def test_counter_0_is_the_earliest_frame_of_a_file(work: Path) -> None:
+    found = feed_of(work, UNORDERED)
     judge("each frame has its time", found == (0, "", [50, 0, 150]), found)
 
 
@@ -46,32 +41,28 @@ def test_counter_0_is_the_earliest_frame_of_all_files(work: Path) -> None:
     judge("the earliest has 0", found == [50, 0], found)
 
 
-@pytest.mark.parametrize("tool", TOOLS)
-def test_frames_before_the_origin_are_counted_with_one_that_helps(work: Path, tool: str) -> None:
-    status, said, _ = feed_by(tool, work, UNORDERED, "--origin", f"{SECOND}.10001")
+def test_frames_before_the_origin_are_counted_with_one_that_helps(work: Path) -> None:
+    status, said, _ = feed_of(work, UNORDERED, "--origin", f"{SECOND}.10001")
     judge("they are a fault", (status, said) == (1, BEFORE), (status, said))
-    found = feed_by(tool, work, UNORDERED, *BEFORE.split()[-4:-2])
+    found = feed_of(work, UNORDERED, *BEFORE.split()[-4:-2])
     judge("and not with that", found == (0, "", [50, 0, 150]), found)
 
 
-@pytest.mark.parametrize("words", [[CONVERT, "from-pcap", "-", "-"], [CAPTURE, "-r", "-=-"]], ids=TOOLS)
-def test_frames_before_the_first_of_a_pipe_are_counted(work: Path, words: list) -> None:
-    done = outcome(*as_given(words), input=UNORDERED, text=False)
+def test_frames_before_the_first_of_a_pipe_are_counted() -> None:
+    done = outcome(CAPTURE, "-r", "-=-", input=UNORDERED, text=False)
     judge("they are a fault", done.returncode == 1 and f"-: {BEFORE}" in done.stderr.decode(), done)
 
 
-@pytest.mark.parametrize("tool", TOOLS)
-def test_a_conversion_that_takes_nothing_says_why(work: Path, tool: str) -> None:
+def test_a_conversion_that_takes_nothing_says_why(work: Path) -> None:
     lengths = [(60, 61), (60, 61), (13, 13), (16_380, 16_380)]
     data = capture_head(MICROSECONDS) + b"".join(captured(SECOND, 5, bytes(kept), wire) for kept, wire in lengths)
-    found = feed_by(tool, work, data)
+    found = feed_of(work, data)
     judge("which", found == (1, "no frame is taken: 2 cut short, 1 too short, 1 too long", []), found)
-    found = feed_by(tool, work, capture_head(MICROSECONDS))
+    found = feed_of(work, capture_head(MICROSECONDS))
     judge("but where there is none", found == (0, "", []), found)
 
 
-@pytest.mark.parametrize("tool", TOOLS)
-def test_what_is_no_capture_of_ethernet_is_named(work: Path, tool: str) -> None:
+def test_what_is_no_capture_of_ethernet_is_named(work: Path) -> None:
     for data, said in [
         (gzip.compress(UNORDERED), "compressed by gzip: zcat makes a capture of it"),
         (
@@ -80,5 +71,5 @@ def test_what_is_no_capture_of_ethernet_is_named(work: Path, tool: str) -> None:
         ),
         (struct.pack("<IIII", 1, 2, 3, 4), "no pcap or pcapng file"),
     ]:
-        status, found, _ = feed_by(tool, work, data)
+        status, found, _ = feed_of(work, data)
         judge(said, (status, found) == (1, said), found)

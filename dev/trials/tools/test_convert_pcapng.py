@@ -1,12 +1,15 @@
-"""Tries convert on pcapng files, by hand and of editcap and mergecap, and `capture -r` beside it."""
+"""Tries `capture -r` on pcapng files, by hand and of editcap and mergecap, beside a second opinion."""
 
 import random
+import re
 import shutil
 from collections.abc import Callable
 from pathlib import Path
+from typing import NamedTuple, Optional
 
 import pytest
 from captures import fields_of, is_as_tshark_reads
+from conversion.runs import Converted
 from damage import damaged
 from frames import records
 from pcapng import (
@@ -26,7 +29,8 @@ from pcapng import (
     simple_packet,
     with_wrong_sequences,
 )
-from support import CAPTURE, CONVERT, judge, judge_quietly, outcome, run
+from sample_feeds import capture_of, sample_feed
+from support import CAPTURE, judge, judge_quietly, outcome, run
 
 WANTED = ("bin/capture", "cc", "tshark", "editcap", "mergecap")
 FRAMES = 2_000
@@ -36,47 +40,49 @@ DAMAGED = 300
 
 
 def converted(work: Path, data: bytes, *words: object) -> tuple[int, str]:
-    """The status, and what is told, of a capture's conversion into out.feed."""
+    """The status of a capture's conversion into out.feed, and the last that is told."""
     (work / "in.pcapng").write_bytes(data)
-    done = outcome(CONVERT, "from-pcap", "--force", *words, work / "in.pcapng", work / "out.feed")
-    return done.returncode, done.stdout + done.stderr
+    done = outcome(CAPTURE, *words, "-r", "in.pcapng=out.feed", cwd=work)
+    counted = re.search(r"frames (\d+) bytes \d+ (skipped \d+)", done.stderr)
+    told = f"frames {counted[1]} {counted[2]}" if counted and done.returncode == 0 else done.stderr
+    return done.returncode, told
 
 
 def test_each_kind_of_block_in_both_byte_orders_is_read(work: Path) -> None:
     """Each kind of block, two sections in both byte orders, each kind of time."""
     told = converted(work, all_blocks(), "--origin", SECOND)
-    judge("frames of all blocks", told == (0, "frames 9 skipped 1\n"), told)
+    judge("frames of all blocks", told == (0, "frames 9 skipped 1"), told)
     found = records((work / "out.feed").read_bytes())
     judge("with their times, check sequences and marks", found == BLOCKS_RECORDS, found)
 
 
 def test_frames_of_the_chosen_interface_alone_are_read(work: Path) -> None:
-    told = converted(work, all_blocks(), "--interface", 1, "--origin", SECOND)
-    judge("of interface 1", told == (0, "frames 2 skipped 0\n"), told)
+    found = converted(work, all_blocks(), "--interface", 1, "--origin", SECOND)
+    judge("of interface 1", found == (0, "frames 2 skipped 0"), found)
     judge("and these alone", records((work / "out.feed").read_bytes()) == BLOCKS_RECORDS[1:3])
-    told = converted(work, all_blocks(), "--interface", 2)
-    judge("an interface that no section has is refused", told[1].endswith(": no interface 2\n") and told[0] == 1, told)
+    status, told = converted(work, all_blocks(), "--interface", 2)
+    judge("an interface that no section has is refused", status == 1 and ": no interface 2\n" in told, told)
 
 
 def test_check_sequences_of_2_bytes_are_refused(work: Path) -> None:
     data = section("<") + interface("<", option("<", 13, b"\x02")) + packet("<", 0, 1, frame_of(1))
     status, told = converted(work, data)
     wanted = "check sequences of 2 bytes, where Ethernet has 4\n"
-    judge("check sequences of 2 bytes are refused", status == 1 and told.endswith(wanted), told)
+    judge("check sequences of 2 bytes are refused", status == 1 and wanted in told, told)
 
 
 def test_another_link_type_is_no_fault_where_no_frame_of_it_is_read(work: Path) -> None:
     data = section("<") + interface("<", link=113) + interface("<") + packet("<", 1, 1, frame_of(1))
     told = converted(work, data)
-    judge("it is no fault where none of its frames is read", told == (0, "frames 1 skipped 0\n"), told)
+    judge("it is no fault where none of its frames is read", told == (0, "frames 1 skipped 0"), told)
 
 
 CUT_SIMPLE = section("<") + interface("<", most=60) + simple_packet("<", frame_of(1), 61)
 
 
 def test_a_simple_packet_block_that_is_cut_is_skipped(work: Path) -> None:
-    told = converted(work, CUT_SIMPLE)
-    judge("a simple packet block that is cut is skipped", told[1].startswith("frames 0 skipped 1\n"), told)
+    told = converted(work, CUT_SIMPLE)[1]
+    judge("a simple packet block that is cut is skipped", " frames 0 bytes 0 skipped 1 " in told, told)
 
 
 # ---- made by others
@@ -84,10 +90,8 @@ def test_a_simple_packet_block_that_is_cut_is_skipped(work: Path) -> None:
 
 def made_capture(work: Path, seed: int, frames: int = FRAMES) -> Path:
     """A classic capture in nanoseconds, of which each seed makes another."""
-    feed, capture = work / f"{seed}.feed", work / f"{seed}.pcap"
-    run(CONVERT, "make", seed, frames, feed)
-    run(CONVERT, "to-pcap", "--origin", SECOND, "--drop-check-sequence", feed, capture)
-    return capture
+    feed = sample_feed(work / f"{seed}.feed", seed, frames)
+    return capture_of(feed, work / f"{seed}.pcap", SECOND * 10**9, False)
 
 
 @pytest.mark.parametrize("cut", [[], ["-s", "100"]], ids=["whole", "cut"])
@@ -119,28 +123,33 @@ def test_micro_and_nanoseconds_in_one_file_are_read(work: Path) -> None:
         "classic nanoseconds of editcap",
         [it[1:] for it in fields_of(classic)] == [it[1:] for it in fields_of(made)],
     )
-    run(CONVERT, "from-pcap", "--origin", "zero", classic, work / "classic.feed")
-    run(CONVERT, "from-pcap", "--force", "--origin", "zero", made, feed)
-    judge("the same feed", (work / "classic.feed").read_bytes() == feed.read_bytes())
+    judge("and that is as tshark reads it", is_as_tshark_reads(classic, feed))
 
 
-# ---- beside capture -r
+# ---- beside a second opinion
 
 
-def outcomes(capture: Path, work: Path, words: list) -> list[tuple]:
-    """What convert and `capture -r` make of a file: the feed, the counts and the fault."""
-    feed, other = work / "feed.feed", work / "capture.feed"
-    for out in (feed, other):
-        out.unlink(missing_ok=True)
-    done = outcome(CONVERT, "from-pcap", *words, capture, feed)
-    bare = done.stderr.replace("convert: ", "").strip()
-    beside = outcome(CAPTURE, *words, "-r", f"{capture}={other}")
-    lines = [line.replace("capture: ", "") for line in beside.stderr.splitlines()]
-    fault = "\n".join(lines[:-1])
-    counts = lines[-1].split()[-8:]
-    made = [it.read_bytes() if it.exists() else None for it in (feed, other)]
-    skipped = done.stdout.split()[-1] if done.returncode == 0 else counts[5]
-    return [(made[0], skipped, bare, done.returncode), (made[1], counts[5], fault, beside.returncode)]
+class Made(NamedTuple):
+    """What becomes of a capture: its feed, how many frames are skipped, what is said, and the status."""
+
+    feed: Optional[bytes]
+    skipped: int
+    said: str
+    status: int
+
+
+def outcomes(capture: Path, work: Path, words: list) -> tuple[Made, Made]:
+    """What the second opinion and `capture -r` make of a file."""
+    given = {name.removeprefix("--"): 0 if value == "zero" else int(value) for name, value in zip(words, words[1:])}
+    mine, made = Converted(capture, **given), work / "capture.feed"
+    made.unlink(missing_ok=True)
+    done = outcome(CAPTURE, *words, "-r", f"{capture}={made}")
+    *said, counts = [line.replace("capture: ", "") for line in done.stderr.splitlines()]
+    skipped = int(counts.split()[-3])
+    theirs = Made(made.read_bytes() if made.exists() else None, skipped, "\n".join(said), done.returncode)
+    # Of one that is refused nobody needs the count.
+    own = mine.skipped() if mine.status == 0 else skipped
+    return Made(None if mine.feed is None else bytes(mine.feed), own, mine.said, mine.status), theirs
 
 
 UNORDERED = capture_head(NANOSECONDS) + b"".join(captured(9, it, bytes(60)) for it in (500, 100, 90, 700))
@@ -162,9 +171,7 @@ def odd_frames() -> bytes:
 
 def wrong_sequences(work: Path) -> bytes:
     """A capture with check sequences, of which each tenth is wrong."""
-    feed, capture = work / "kept.feed", work / "kept.pcap"
-    run(CONVERT, "make", 3, 100, feed)
-    run(CONVERT, "to-pcap", feed, capture)
+    capture = capture_of(sample_feed(work / "kept.feed", 3, 100), work / "kept.pcap")
     return with_wrong_sequences(capture.read_bytes())
 
 
@@ -192,19 +199,17 @@ KINDS: dict[str, Callable[[Path], bytes]] = {
 @pytest.mark.parametrize(
     "words", [[], ["--origin", "zero"], ["--interface", "1"]], ids=["plain", "origin", "interface"]
 )
-def test_convert_and_capture_make_the_same_feeds(work: Path, kind: str, words: list) -> None:
+def test_a_second_opinion_makes_the_same_feeds(work: Path, kind: str, words: list) -> None:
     """The same feeds of all these files, or the same words of refusal."""
     path = work / "compared"
     path.write_bytes(KINDS[kind](work))
     mine, theirs = outcomes(path, work, words)
     judge(f"capture -r of {kind} {words}", mine == theirs, (mine[1:], theirs[1:]))
     if kind == "more_interfaces":
-        judge(
-            "more interfaces than can be named are refused", "more than 65536 interfaces at byte" in mine[2], mine[1:]
-        )
+        judge("more than can be named are refused", "more than 65536 interfaces at byte" in mine.said, mine.said)
 
 
-def test_convert_and_capture_refuse_damage_in_the_same_words(work: Path) -> None:
+def test_a_second_opinion_refuses_damage_in_the_same_words(work: Path) -> None:
     few, classic = work / "few.pcapng", made_capture(work, 6, 10)
     run("editcap", "-F", "pcapng", classic, few)
     whole_files = [all_blocks(), classic.read_bytes(), few.read_bytes()]
@@ -215,5 +220,5 @@ def test_convert_and_capture_refuse_damage_in_the_same_words(work: Path) -> None
         if mine != theirs:
             shutil.copy(changed, "/tmp/test_convert.pcap")
         judge_quietly(f"a damaged file, kept as /tmp/test_convert.pcap: {mine[1:]} {theirs[1:]}", mine == theirs)
-        refused += mine[3] != 0
+        refused += mine.status != 0
     judge(f"of {DAMAGED} damaged files {refused} are refused with the same words", 0 < refused < DAMAGED)

@@ -7,19 +7,19 @@ from pathlib import Path
 
 import pytest
 from recorder import make_feed
-from support import COMMAND, CONVERT, ROOT, TOOLS, judge, judge_quietly, outcome, run
+from sample_feeds import capture_of
+from support import COMMAND, ROOT, TOOLS, judge, judge_quietly, outcome, run
 
 WANTED = ("bin/bpfrec", "bin/capture", "tcpdump", "editcap")
 FILTER, LIVE = TOOLS / "filter", TOOLS / "live"
 FEED = ROOT / "examples/feeds/one.feed"
-EXPRESSION, ORIGIN = "udp port 50001", "1764590400.25"
+EXPRESSION, ORIGIN = "udp port 50001", 1_764_590_400_250_000_000
 
 
 @pytest.fixture
 def capture(work: Path) -> Path:
     """A capture of 60 frames."""
-    run(CONVERT, "to-pcap", "--origin", ORIGIN, FEED, work / "flight.pcap")
-    return work / "flight.pcap"
+    return capture_of(FEED, work / "flight.pcap", ORIGIN)
 
 
 def seen(capture: Path, expression: str = "") -> list[str]:

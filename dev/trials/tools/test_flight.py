@@ -7,7 +7,8 @@ from pathlib import Path
 
 import pytest
 import tomllib
-from support import BPFREC, CONVERT, PREFLIGHT, ROOT, TOOLS, judge, judge_quietly, outcome, run
+from sample_feeds import capture_of
+from support import BPFREC, PREFLIGHT, ROOT, TOOLS, judge, judge_quietly, outcome, run
 
 WANTED = ("bin/bpfrec", "bin/capture", "tcpdump")
 LIVE = TOOLS / "live"
@@ -29,7 +30,7 @@ filter = "arp"
 @pytest.fixture
 def folder(work: Path) -> Path:
     """A folder with two captures, which stand for interfaces."""
-    run(CONVERT, "to-pcap", "--origin", "1764590400.25", FEED, work / "one.pcap")
+    capture_of(FEED, work / "one.pcap", 1_764_590_400_250_000_000)
     shutil.copy(work / "one.pcap", work / "two.pcap")
     return work
 

@@ -8,7 +8,8 @@ from pathlib import Path
 import pytest
 from reading import SAMPLES
 from recorder import make_feed
-from support import CHECK, CONVERT, EXPORT, INFO, SALVAGE, TOOLS, judge, outcome, run
+from sample_feeds import capture_of
+from support import CHECK, EXPORT, INFO, SALVAGE, TOOLS, judge, outcome, run
 
 WANTED = ("bin/bpfrec",)
 MAKING = ("salvage", "pcapng", "filter")
@@ -18,8 +19,7 @@ def words_of(work: Path, tool: str, out: object, *options: str) -> list:
     """The words of a tool that makes OUT."""
     recording, capture = work / "own.ch11", work / "own.pcap"
     shutil.copy(SAMPLES[1], recording)
-    capture.unlink(missing_ok=True)
-    run(CONVERT, "to-pcap", make_feed(work / "own.feed", 10), capture)
+    capture_of(make_feed(work / "own.feed", 10), capture)
     return {
         "salvage": [SALVAGE, *options, recording, out],
         "pcapng": [EXPORT, "--as=pcapng", *options, recording, out],

@@ -21,11 +21,10 @@ from expected_facts import (
 )
 from frames import FRAMES
 from packets import frames_in as frames_of_data
-from pcapng import frames_in
 from reading import SEED, recording_of_three
 from recorder import RECORDINGS
-from rows import expected_rows, printed, saved
-from support import BPFREC, CONVERT, EXPORT, judge, judge_quietly, run
+from rows import expected_rows, printed
+from support import EXPORT, judge, judge_quietly, run
 from whole_file import Origin, whole_file
 from whole_file_parts import ORIGIN, SAMPLE_SETUP, parts_of, sample_recording
 
@@ -72,16 +71,6 @@ def test_a_scale_that_nobody_knows_is_said_of_each_row(work: Path, three: Path, 
     lines = printed(work, "-r", recording, "-Y", "ch11.number", "-T", "fields", "-e", "ch11.time")
     told = f"absolute{scale}, by {recording}.json"
     judge("each row says whether its scale is known", lines and set(lines) == {told}, lines[:3])
-
-
-def test_times_are_those_of_convert(work: Path, three: Path) -> None:
-    """Times are those of `convert to-pcap --facts`."""
-    recording = work / "x.ch11"
-    shutil.copy(three, recording)
-    (work / "x.ch11.json").write_text(json.dumps(facts_of_run(THREE_ORIGINS)))
-    run(BPFREC, "extract", recording, 3, work / "3.feed")
-    run(CONVERT, "to-pcap", "--facts", work / "x.ch11.json", work / "3.feed", work / "3.pcap")
-    judge("as to-pcap has them", frames_in((work / "3.pcap").read_bytes()) == frames_in(saved(work, recording, 3)))
 
 
 def test_drawn_facts_are_taken_or_refused_as_formats_says(work: Path) -> None:

@@ -7,8 +7,7 @@ from typing import Any, Callable, Iterator, Optional
 
 from bpfrec.formats.limits import CHECK_SEQUENCE_LEN, NANOSECONDS_A_SECOND
 from bpfrec.formats.pcapng_blocks import LINK_TYPE_ETHERNET
-from bpfrec_tools.cli.streams import Refused
-from conversion.streams import Input
+from conversion.streams import Input, Refused
 
 # What is captured beside Ethernet, mostly.
 LINK_TYPES = {
@@ -68,25 +67,18 @@ Unpack = Callable[[bytes, int], tuple[Any, ...]]
 
 
 def records(capture: Input, unpack: Unpack, nanoseconds_a_unit: int, has_check_sequence: bool) -> Iterator[Captured]:
-    """The frames behind the head of a capture, each as soon as all of it has come."""
-    # Each frame of a large file comes through here, so names are local.
-    head_len, most, a_second = CAPTURED_HEAD_LEN, MAX_CAPTURED_LEN, NANOSECONDS_A_SECOND
-    data, at, end = capture.held(capture.at, head_len)
-    while end - at >= head_len:
-        seconds, units, captured, length = unpack(data, at)
-        if captured > most:
-            raise Refused(f"{capture.name}: captured length {captured} at byte {capture.place + at}")
-        start = at + head_len
-        stop = start + captured
-        if stop > end:
-            data, at, end = capture.needed(at, head_len + captured)
-            continue
-        nanoseconds = seconds * a_second + units * nanoseconds_a_unit
-        yield nanoseconds, captured >= length, has_check_sequence, 0, data[start:stop]
-        at = stop
-        if end - at < head_len:
-            data, at, end = capture.held(at, head_len)
-    if at < end:
+    """The frames behind the head of a capture."""
+    while capture.has(CAPTURED_HEAD_LEN):
+        seconds, units, captured, length = unpack(capture.data, capture.at)
+        if captured > MAX_CAPTURED_LEN:
+            raise Refused(f"{capture.name}: captured length {captured} at byte {capture.at}")
+        if not capture.has(CAPTURED_HEAD_LEN + captured):
+            raise capture.cut_short()
+        begin = capture.at + CAPTURED_HEAD_LEN
+        capture.at = begin + captured
+        nanoseconds = seconds * NANOSECONDS_A_SECOND + units * nanoseconds_a_unit
+        yield nanoseconds, captured >= length, has_check_sequence, 0, capture.data[begin : capture.at]
+    if capture.has(1):
         raise capture.cut_short()
 
 
@@ -101,15 +93,3 @@ def judge_check_sequence_len(capture: Input, length: int) -> None:
     """Refuses check sequences of another length than Ethernet's; 0 says that there are none."""
     if length not in (0, CHECK_SEQUENCE_LEN):
         raise Refused(f"{capture.name}: check sequences of {length} bytes, where Ethernet has 4")
-
-
-def head(has_check_sequences: bool) -> bytes:
-    """The head of a capture of Ethernet in nanoseconds, little-endian."""
-    link = LINK_TYPE_ETHERNET
-    if has_check_sequences:
-        link |= HAS_CHECK_SEQUENCE | CHECK_SEQUENCE_LEN // 2 << CHECK_SEQUENCE_WORDS_SHIFT
-    return struct.pack("<IHHiIII", NANOSECOND_MAGIC, 2, 4, 0, 0, MAX_CAPTURED_LEN, link)
-
-
-# What is before each frame of such a capture: seconds, nanoseconds, and the frame's length twice.
-CAPTURED_HEAD = struct.Struct("<IIII")

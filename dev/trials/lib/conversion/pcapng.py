@@ -18,9 +18,8 @@ from bpfrec.formats.pcapng_blocks import (
     PACKET_BLOCK,
     SECTION_BLOCK,
 )
-from bpfrec_tools.cli.streams import Refused
 from conversion.pcap import MAX_CAPTURED_LEN, Captured, judge_check_sequence_len, judge_link_type
-from conversion.streams import Input
+from conversion.streams import Input, Refused
 
 OLD_PACKET_BLOCK = 2
 SIMPLE_PACKET_BLOCK = 3
@@ -111,7 +110,7 @@ class Blocks:
             capture.at = at + length
             if frame:
                 yield frame
-        if not capture.is_at_end():
+        if capture.has(1):
             raise capture.cut_short()
         if self.chosen is not None and not self.is_found:
             raise Refused(f"{capture.name}: no interface {self.chosen}")
@@ -125,7 +124,7 @@ class Blocks:
 
     def refused(self, what: str) -> Refused:
         """A fault of the block that is read."""
-        return Refused(f"{self.capture.name}: {what} at byte {self.capture.where()}")
+        return Refused(f"{self.capture.name}: {what} at byte {self.capture.at}")
 
     def head(self) -> tuple[int, int]:
         """The type and the length of the next block."""

@@ -1,12 +1,13 @@
-"""Feeds of sample frames: ARP, and UDP over IPv4."""
+"""Feeds of sample frames for trials, and captures of feeds: ARP, and UDP over IPv4."""
 
 from __future__ import annotations
 
 import random
 import struct
+from pathlib import Path
 
-from conversion.records import MIN_WIRE_LEN, Record, check_sequence, write_record
-from conversion.streams import Converted
+from frames import record_of, records, with_check_sequence
+from pcapng import NANOSECONDS, capture_head, captured
 
 SOURCE = bytes.fromhex("020000000001")
 TARGET = bytes.fromhex("020000000002")
@@ -19,6 +20,10 @@ VLAN_TAG = b"\x81\x00\x00\x64"
 # The ticks between two frames.
 LEAST_PAUSE, MOST_PAUSE = 100, 10_100
 SOURCE_PORT, FIRST_PORT, PORTS, MOST_PAYLOAD = 50_000, 50_001, 4, 400
+LEAST_LENGTH, CHECK_SEQUENCE = 60, 4
+# The link type of Ethernet whose frames end with check sequences, of two words.
+WITH_CHECK_SEQUENCES = 1 | 1 << 26 | 2 << 28
+MOST_CAPTURED = 262_144
 
 
 def internet_checksum(header: bytes) -> int:
@@ -26,7 +31,7 @@ def internet_checksum(header: bytes) -> int:
     total = sum(struct.unpack(f">{len(header) // 2}H", header))
     while total >> 16:
         total = (total & 0xFFFF) + (total >> 16)
-    return int(total ^ 0xFFFF)
+    return total ^ 0xFFFF
 
 
 def udp_datagram(source: bytes, target: bytes, port: int, payload: bytes) -> bytes:
@@ -55,14 +60,22 @@ def sample_frame(draw: random.Random) -> bytes:
     return TARGET + SOURCE + tag + b"\x08\x00" + udp_datagram(SENDER, RECEIVER, port, payload)
 
 
-def make(seed: int, count: int, output: str, is_forced: bool) -> None:
-    """Writes a feed of sample frames, the same for the same seed, and prints their number."""
-    draw = random.Random(seed)
-    counter = 0
-    feed = Converted(output, is_forced=is_forced)
+def sample_feed(path: Path, seed: int, count: int) -> Path:
+    """Writes a feed of sample frames, the same for the same seed; the first counter is 0."""
+    draw, counter, parts = random.Random(seed), 0, []
     for _ in range(count):
-        frame = sample_frame(draw).ljust(MIN_WIRE_LEN, b"\0")
-        write_record(feed, Record(counter, 0, frame + check_sequence(frame)))
+        parts.append(record_of(counter, with_check_sequence(sample_frame(draw).ljust(LEAST_LENGTH, b"\0"))))
         counter += LEAST_PAUSE + int(draw.random() * (MOST_PAUSE - LEAST_PAUSE))
-    feed.close()
-    feed.report(f"frames {count}")
+    path.write_bytes(b"".join(parts))
+    return path
+
+
+def capture_of(feed: Path, path: Path, origin: int = 0, has_check_sequences: bool = True) -> Path:
+    """Writes a classic capture of a feed, by the moment of counter 0 in nanoseconds."""
+    head = capture_head(NANOSECONDS, MOST_CAPTURED, WITH_CHECK_SEQUENCES if has_check_sequences else 1)
+    end = None if has_check_sequences else -CHECK_SEQUENCE
+    frames = (
+        captured(*divmod(origin + it.counter * 100, 10**9), it.frame[:end]) for it in records(feed.read_bytes())
+    )
+    path.write_bytes(head + b"".join(frames))
+    return path
