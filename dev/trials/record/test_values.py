@@ -1,6 +1,6 @@
 """Tries that the numbers of settings, scripts and feeds stand in a recording as docs/user/formats/ has them: at both
 ends, each between them, and marks one by one; each at its ends is in crates/test_cases/src/values.rt. What is compared
-with is written by hand (dev/trials/lib/frames.py), with no reader of packets."""
+with is the second writer's (dev/trials/lib/aged_packets.py)."""
 
 from __future__ import annotations
 
@@ -8,23 +8,13 @@ from pathlib import Path
 from typing import NamedTuple
 
 import pytest
-from frames import (
-    COMPUTER,
-    FRAMES,
-    HEADER_LENGTH,
-    body_of,
-    end_packet,
-    feed_of,
-    insns_of,
-    packet_of,
-    program_data,
-    sum_of,
-)
+from aged_packets import Channel, Item, recording
+from frames import HEADER_LENGTH, feed_of, sum_of
+from packets import packets_in
 from recorder import record, write_settings
 from support import BPFREC, KEEPS_ALL, judge, outcome, run
 
 WANTED = ("bin/bpfrec",)
-INSN = insns_of((6, 0, 0, 1))
 FRAME = bytes.fromhex("ffffffffffff020000000001080600010203")
 
 
@@ -60,23 +50,10 @@ def with_version(packet: bytes, version: int) -> bytes:
 
 def expected(values: Values, frames: list[tuple[int, int, bytes]]) -> bytes:
     """The recording of these frames: as many in a packet as the limit has room for."""
-    channel, word = values.channel, values.net << 16 | values.speed << 24
-    packets = [packet_of(0, program_data(channel, 0, INSN), 0, COMPUTER, frames[0][0], True)]
-    held: list[tuple[int, int, bytes]] = []
-
-    def close() -> None:
-        packets.append(packet_of(channel, body_of(held), len(packets) - 1, FRAMES, held[0][0], True))
-        held.clear()
-
-    for counter, marks, frame in frames:
-        size = len(body_of([*held, (0, 0, frame)]))
-        if held and HEADER_LENGTH + size + -size % 4 > values.limit:
-            close()
-        # Bit 31 of a frame's word is that of a wrong check sequence, mark 1, and bit 30 of a frame error, mark 2.
-        held.append((counter, word | (marks & 1) << 31 | (marks >> 1) << 30, frame))
-    close()
-    packets.append(end_packet(channel, len(frames), counter=frames[-1][0]))
-    return b"".join(with_version(it, values.version) for it in packets)
+    channel = Channel([(0, "all")], 0, values.limit, values.channel, values.net, values.speed)
+    whole = recording(channel, [Item(counter, frame, marks) for counter, marks, frame in frames])
+    places = [*(at for at, *_ in packets_in(whole)), len(whole)]
+    return b"".join(with_version(whole[at:end], values.version) for at, end in zip(places, places[1:]))
 
 
 def frames_up_to(limit: int) -> list[tuple[int, int, bytes]]:
