@@ -11,20 +11,7 @@ import pytest
 from frames import numbers
 from namespace import make_pair, send_numbered, take_away
 from pcapng import capture_head, captured, frame_of
-from support import (
-    CAPTURE,
-    LIBRARY,
-    NOBODY,
-    Reader,
-    Running,
-    judge,
-    judge_quietly,
-    outcome,
-    pipe_at,
-    run,
-    shared_library,
-    wait_for,
-)
+from support import CAPTURE, LIBRARY, NOBODY, Reader, Running, judge, outcome, pipe_at, run, shared_library, wait_for
 
 WANTED = ("bin/bpfrec", "bin/capture", "ip", "cc")
 pytestmark = [pytest.mark.timed, pytest.mark.usefixtures("namespace")]
@@ -226,8 +213,7 @@ def test_root_becomes_the_owner_of_its_feeds_where_there_is_no_landlock(work: Pa
     running.wait_until_told("rx0: it is back")
     send_numbered("tx0", 0, 10)
     wait_for("it captures again", lambda: len(reader.data) >= 10 * 73)
-    running.interrupt()
-    judge("it ends well", running.ended()[0] == 0, running.told())
+    running.end_well()
 
 
 def test_a_line_says_that_root_stays_root_where_there_is_no_landlock(work: Path, failing_rights: Path) -> None:
@@ -237,5 +223,4 @@ def test_a_line_says_that_root_stays_root_where_there_is_no_landlock(work: Path,
     running.wait_until_told("origin")
     line = "capture: it may write all that root may: the kernel has no Landlock, and its feeds are root's\n"
     judge("a line says so", line in running.told() and identity_of(running.process.pid)["Uid"].startswith("0"))
-    running.interrupt()
-    judge_quietly("it ends well", running.ended()[0] == 0, running.told())
+    running.end_well()

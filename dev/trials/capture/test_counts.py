@@ -134,5 +134,4 @@ def test_a_reader_of_the_counts_who_leaves_ends_nothing(work: Path) -> None:
     time.sleep(1.2)
     send_numbered("tx0", 0, SENT)
     wait_for("each frame is recorded", lambda: len(feed.data) == SENT * RECORD_LEN)
-    running.interrupt()
-    judge("it ends as it was asked", running.ended()[0] == 0, running.told())
+    running.end_well()

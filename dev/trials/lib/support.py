@@ -161,6 +161,13 @@ class Running:
         """Ctrl-C, which the terminal sends to all."""
         os.killpg(self.process.pid, signal.SIGINT)
 
+    def end_well(self) -> str:
+        """Ctrl-C ends it with status 0: what it printed."""
+        self.interrupt()
+        status, printed = self.ended()
+        judge("it ends well", status == 0, self.told())
+        return printed
+
     def ended(self) -> tuple[int, str]:
         """Its status and what it printed."""
         try:

@@ -6,7 +6,7 @@ import time
 from pathlib import Path
 
 from frames import Record, records
-from support import CAPTURE, MILLISECOND, Running, judge, judge_quietly
+from support import CAPTURE, MILLISECOND, Running, judge
 
 TICK = 100
 # A span in ticks, of 50 ms, and how long a mark may take from its moment to the feed, on a machine with other work.
@@ -34,8 +34,7 @@ def gaps_of(counters: list[int]) -> list[int]:
 
 def judge_ended(running: Running) -> str:
     """Ends it well; what it told."""
-    running.interrupt()
-    judge_quietly("it ends well", running.ended()[0] == 0, running.told())
+    running.end_well()
     return running.told()
 
 

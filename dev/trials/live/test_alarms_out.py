@@ -85,8 +85,7 @@ def test_a_program_that_is_killed_at_any_moment_spoils_nothing(work: Path) -> No
             killed += 1
     count = traffic.end()
     time.sleep(0.2)
-    live.interrupt()
-    judge("live ends well", live.ended()[0] == 0, live.told())
+    live.end_well()
     told = live.told().count("alarm was ended by signal 9\n")
     judge(f"{killed} were killed, which is said of each", killed > KILLS / 2 and told == killed, live.told())
     judge_whole(work, out, count)
@@ -172,8 +171,7 @@ def test_lines_for_the_journal_have_their_priorities(work: Path, quiet: list[str
     wait_for("its end", lambda: "<6>bpfrec live: alarm ended: the clock is not synchronised\n" in live.told(), 5)
     send_together(0, 50)
     time.sleep(1.2)
-    live.interrupt()
-    judge_quietly("live ends well", live.ended()[0] == 0, live.told())
+    live.end_well()
     lines = live.told().splitlines()
     judge("each line has one", all(re.match("<[346]>[^<]", it) for it in lines), live.told())
     for line in (

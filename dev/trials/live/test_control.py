@@ -193,8 +193,7 @@ def test_the_oldest_idle_client_makes_room_for_another(work: Path, run: Running)
     for each in clients[2:]:
         each.sendall(b"mark mine\n")
         judge_quietly("it is answered", each.recv(100).startswith(b"done\nmarked"))
-    run.interrupt()
-    judge("it ends well", run.ended()[0] == 0, run.told())
+    run.end_well()
 
 
 def test_a_line_feed_in_a_line_is_refused(work: Path, run: Running) -> None:
@@ -217,8 +216,7 @@ def test_a_line_longer_than_any_lets_its_client_go(work: Path, run: Running) -> 
         except TimeoutError:
             ended = False
     judge("it is let go", ended)
-    run.interrupt()
-    judge("it ends well", run.ended()[0] == 0, run.told())
+    run.end_well()
 
 
 def test_what_stands_at_the_path(work: Path, run: Running) -> None:
@@ -232,8 +230,7 @@ def test_what_stands_at_the_path(work: Path, run: Running) -> None:
     judge_quietly("it is left by a run that was killed", (work / "control").exists())
     third = begin(work, work / "third.ch11", *words)
     judge("and replaced", ask(work, "mark", "again").returncode == 0, third.told())
-    third.interrupt()
-    judge("it ends well", third.ended()[0] == 0, third.told())
+    third.end_well()
     (work / "control").write_text("a file")
     fourth = begin(work, work / "fourth.ch11", *words)
     judge("a file is left", fourth.ended()[0] == 3 and (work / "control").read_text() == "a file", fourth.told())

@@ -117,8 +117,7 @@ def test_what_they_left_is_told_at_the_next_start(work: Path) -> None:
     third = begin(here, here / "third.ch11", "--quiet", adds={"TMPDIR": str(work / "private")})
     judge("one that goes on isn't", third.told().count("bpfrec.") == 1, third.told())
     for start in (second, third):
-        start.interrupt()
-        judge_quietly("it ends well", start.ended()[0] == 0, start.told())
+        start.end_well()
     judge("it is left as it is", Path(left[0]).is_dir())
 
 
@@ -137,8 +136,7 @@ def test_files_of_others_beside_the_facts_stay(work: Path, words: list) -> None:
     for file in theirs:
         file.write_text("precious")
     running = begin(work, out, "--quiet", *words)
-    running.interrupt()
-    judge_quietly("it records", running.ended()[0] == 0, running.told())
+    running.end_well()
     judge("they stay", [it.read_text() for it in theirs if it.exists()] == ["precious"] * 2)
     left = sorted(it.name for it in work.glob("beside.ch11*"))
     judge("with the facts, and nothing else", left == [out.name, f"{out.name}.json", *(it.name for it in theirs)], left)

@@ -175,8 +175,7 @@ def test_a_recording_does_not_notice_its_follower(work: Path, sign: Optional[sig
     time.sleep(1)
     sent = traffic.end()
     time.sleep(0.3)
-    running.interrupt()
-    judge_quietly("it ends well", running.ended()[0] == 0, running.told())
+    running.end_well()
     follower.process.kill()
     follower.process.wait(SECONDS)
     counts = facts_of(out)["counts"]
@@ -215,8 +214,7 @@ def test_ctrl_c_ends_it_with_a_line(work: Path) -> None:
         (status, (work / "follow.errors").read_text()) == (130, "bpfrec follow: interrupted\n"),
         status,
     )
-    running.interrupt()
-    judge("the recording goes on", running.ended()[0] == 0, running.told())
+    running.end_well()
 
 
 def test_tshark_reads_it_while_it_comes(work: Path) -> None:
@@ -228,8 +226,7 @@ def test_tshark_reads_it_while_it_comes(work: Path) -> None:
     shark = subprocess.Popen(["bash", "-c", line], stderr=subprocess.DEVNULL)
     wait_for("rows while the recording goes on", lambda: has_bytes(work / "rows", 200), 30)
     traffic.end()
-    running.interrupt()
-    judge_quietly("it ends well", running.ended()[0] == 0, running.told())
+    running.end_well()
     judge_quietly("and its end", shark.wait(SECONDS) == 0)
     rows = (work / "rows").read_text().splitlines()
     frames = sum(len(records(extracted(work, out, it))) for it in (1, 2))
@@ -290,8 +287,7 @@ def test_a_run_of_before_is_not_taken_for_the_next_recording(work: Path) -> None
     out = work / "two.ch11"
     first = begin(work, out, "--quiet", "--every", 1)
     wait_for("three recordings", lambda: len(recordings(work, "two")) >= 3, 20)
-    first.interrupt()
-    judge_quietly("it ends well", first.ended()[0] == 0, first.told())
+    first.end_well()
     earlier = recordings(work, "two")
     for path in earlier[:2]:
         path.unlink()

@@ -117,8 +117,7 @@ def test_an_interface_without_frames_is_an_alarm_and_an_interruption_of_the_fact
         time.sleep(1.2 if words else 0)
         come_back()
         wait_for("it is back", lambda: away_in(running) is None, 10)
-    running.interrupt()
-    judge("it ends well", running.ended()[0] == 0, running.told())
+    running.end_well()
     files = recordings(work, "link") if words else [work / "link.ch11"]
     found = [it for file in files for it in facts_of(file)["interruptions"]]
     judge("each is of rx0, and has an end", {it["interface"] for it in found} == {"rx0"} and found[-1]["to"], found)

@@ -222,8 +222,7 @@ def test_in_a_silence_datagrams_go_on(work: Path) -> None:
     traffic.end()
     before = len(station.datagrams)
     wait_for("silence again", lambda: [len(it) for it in station.datagrams[before:]][-2:] == [4, 4])
-    running.interrupt()
-    judge("it ends well", running.ended()[0] == 0, running.told())
+    running.end_well()
     judge_quietly("numbers", packets_in(station.close()))
 
 

@@ -146,8 +146,7 @@ def test_mode_holds_for_an_overwritten_file(work: Path) -> None:
     out.write_bytes(b"lost")
     out.chmod(0o666)
     running = begin(work, out, "--quiet", "--force", "--mode", "0600")
-    running.interrupt()
-    judge("it is recorded", running.ended()[0] == 0, running.told())
+    running.end_well()
     judge("with its mode", [mode_of(it) for it in (out, work / "there.ch11.json")] == [0o600] * 2)
 
 

@@ -104,8 +104,7 @@ def test_recordings_that_follow_have_the_scale_too(work: Path) -> None:
     adds = {"CAPTURE": str(capture_with(work, adapter_ahead(37)))}
     running = begin(work, work / "part.ch11", "--quiet", "--clock", "adapter", "--every", 1, adds=adds)
     Sender().send(300, pause=0.01)
-    running.interrupt()
-    judge("it ends well", running.ended()[0] == 0, running.told())
+    running.end_well()
     found = [facts_of(it)["origins"] for it in sorted(work.glob("part_*.ch11"))]
     (first,) = found[0]
     judge("several recordings with one origin", len(found) > 2 and all(it == [first] for it in found), found)
@@ -137,8 +136,7 @@ def test_frames_that_waited_for_a_reader_do_not_hide_the_scale(work: Path) -> No
     reader = Reader(captured.pipe)
     captured.sender.send(100, pause=0.01)
     wait_for("the scale", lambda: len(captured.origins()) == 2, 2)
-    captured.running.interrupt()
-    judge("it ends well", captured.running.ended()[0] == 0, captured.running.told())
+    captured.running.end_well()
     judge("TAI from the beginning on", captured.origins() == [{"scale": None}, TAI], captured.running.told())
     judge("each frame is there", numbers(reader.all()) == list(range(300)))
 
@@ -155,8 +153,7 @@ def test_an_adapter_that_comes_back_keeps_the_scale(work: Path) -> None:
     wait_until_up("rx0")
     captured.sender.send(20)
     time.sleep(0.2)
-    captured.running.interrupt()
-    judge("it ends well", captured.running.ended()[0] == 0, captured.running.told())
+    captured.running.end_well()
     judge("its clock is looked at again", captured.running.told().count("runs TAI") == 2, captured.running.told())
     judge("and the scale stays", captured.origins() == [{"scale": None}, TAI], captured.origins())
     judge("frames of both", len(records(reader.all())) == 40)

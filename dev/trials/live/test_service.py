@@ -13,7 +13,7 @@ from frames import numbers
 from namespace import send_together
 from recordings import RUN, YES, begin, extracted, process_of, settings_of
 from service import Manager
-from support import BPFREC, CAPTURE, LIVE, NOBODY, ROOT, Running, judge, judge_quietly, outcome, wait_for
+from support import BPFREC, CAPTURE, LIVE, NOBODY, ROOT, Running, judge, outcome, wait_for
 
 WANTED = ("bin/bpfrec", "bin/capture", "ip", "setpriv")
 pytestmark = pytest.mark.timed
@@ -67,8 +67,7 @@ def test_a_manager_that_is_gone_holds_nothing_up(work: Path, namespace: None) ->
     for name, pause in ((str(work / "gone"), "1000000"), ("", "x"), ("@", "-5")):
         out = work / f"alone{len(name)}.ch11"
         running = begin(work, out, "--quiet", adds={"NOTIFY_SOCKET": name, "WATCHDOG_USEC": pause})
-        running.interrupt()
-        judge_quietly(f"NOTIFY_SOCKET={name}: it records", running.ended()[0] == 0, running.told())
+        running.end_well()
     judge("a manager that is gone holds nothing up", True)
 
 

@@ -75,8 +75,7 @@ def test_too_few_descriptors_are_refused_ahead_and_nothing_is_left(work: Path, o
         running = Running(here, "/usr/bin/python3", LIVE, *words, adds={RUN: str(here)}, preexec_fn=set_limits)
         if limits[1] >= needed:
             running.wait_until_told("capture: origin")
-            running.interrupt()
-            judge(f"{limits}: it records", running.ended()[0] == 0, running.told())
+            running.end_well()
         else:
             line = f"bpfrec live: it needs {needed} descriptors, and may have {limits[1]}: ulimit -n {needed}\n"
             judge(f"{limits}: refused", (running.ended()[0], running.told()) == (3, line), running.told())

@@ -125,8 +125,7 @@ def test_a_key_of_an_agent_signs(work: Path, namespace: None, agent: tuple[Path,
     key, adds = agent
     out = work / "one.ch11"
     running = begin(work, out, "--quiet", "--sign", key, adds=adds)
-    running.interrupt()
-    judge("status 0", running.ended()[0] == 0, running.told())
+    running.end_well()
     done = checked(allowed(work, fc1=key.with_suffix("")), out)
     judge("it is signed", done.returncode == 0 and f"signature right: {SIGNER}\n" in done.stdout, done)
 

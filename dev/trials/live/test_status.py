@@ -79,8 +79,7 @@ def test_another_address_is_asked_by_it_and_by_names_that_are_given(work: Path) 
         except urllib.error.HTTPError as refused:
             found = refused.code
         judge_quietly(f"Host: {host}: {found}", found == wanted)
-    live.interrupt()
-    judge("it ends well", live.ended()[0] == 0, live.told())
+    live.end_well()
     other = outcome(LIVE, "--status-name", "tap", work / "x.ch11", "rx0")
     told = (other.returncode, other.stderr)
     judge("names without a page are refused", told == (2, "bpfrec live: --status-name needs --status\n"), told)
@@ -96,8 +95,7 @@ def test_the_status_tells_of_recordings_that_follow(work: Path) -> None:
         "and the next goes on", found["recording"]["number"] > 2 and found["state"] == "recording", found["recording"]
     )
     traffic.end()
-    live.interrupt()
-    judge("it ends well", live.ended()[0] == 0, live.told())
+    live.end_well()
 
 
 def test_behind_a_pause_of_the_capture_no_second_has_its_sum(work: Path) -> None:
@@ -112,8 +110,7 @@ def test_behind_a_pause_of_the_capture_no_second_has_its_sum(work: Path) -> None
     time.sleep(4)
     history = status_of(address)["channels"][0]["history"]["offered_frames"]
     sent = traffic.end()
-    live.interrupt()
-    judge_quietly("it ends well", live.ended()[0] == 0, live.told())
+    live.end_well()
     usual = sorted(it for it in history if it)[len(history) // 2]
     judge("each bar is about as high", len(history) >= 14 and max(it or 0 for it in history) < 1.6 * usual, history)
     judge("and none of those of the pause is missing", all(it for it in history[3:]), (sent, history))

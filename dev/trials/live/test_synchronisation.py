@@ -115,8 +115,7 @@ def test_without_the_option_a_clock_that_nobody_holds_is_said_and_no_alarm(work:
     wait_for("it is said", lambda: clock_of(live) == ["bpfrec live: clock: not synchronised\n"], 5)
     wait_for("the page has it", lambda: status_of(address)["clock"]["is_synchronised"] is False, 5)
     judge("it is no alarm", state_at(address)[1:] == ([], (0, 0)), state_at(address))
-    live.interrupt()
-    judge("it ends well", live.ended()[0] == 0, live.told())
+    live.end_well()
     words = [settings_of(work), work / "o.ch11", "rx0=1"]
     told = preflight(work, kernel, *words)[1]
     judge("preflight says so", "clock: note: not synchronised\n" in told, told)
@@ -129,8 +128,7 @@ def test_chrony_and_ptp_are_named(work: Path) -> None:
     source = "chrony (192.0.2.1) and PTP (001122.fffe.334455)"
     line = f"bpfrec live: clock: synchronised by {source}, off by at most 0.000500 s\n"
     wait_for(lambda: f"both are named: {live.told()}", lambda: clock_of(live) == [line], 5)
-    live.interrupt()
-    judge("it ends well", live.ended()[0] == 0, live.told())
+    live.end_well()
     told = run(INFO, "--quiet", out)
     judge("info names them", told.count(f"synchronised by {source}, off by at most 0.000500 s") == 2, told)
 

@@ -80,8 +80,7 @@ def test_facts_of_a_disk_that_writes_back_have_no_fault(work: Path) -> None:
     out = work / "good.ch11"
     running = begin(work, out, "--quiet")
     wait_for("facts are there", lambda: has_facts(out), 5)
-    running.interrupt()
-    judge("status 0", running.ended()[0] == 0, running.told())
+    running.end_well()
     judge("the fault is null", facts_of(out)["sync_fault"] is None)
 
 
