@@ -37,7 +37,9 @@ def settings(work: Path, setup: str) -> Path:
 
 def streamed(work: Path, data: bytes, setup: Setup) -> subprocess.CompletedProcess:
     """How the command ends that reads the recording."""
-    return outcome(BPFREC, "chapter11", "--stream", settings(work, setup_text(setup)), input=data, text=False)
+    words = [BPFREC, "chapter11", "--stream", settings(work, setup_text(setup))]
+    # SETUP of 65,535 channels takes long where much else runs.
+    return outcome(*words, input=data, text=False, seconds=120)
 
 
 def expected(data: bytes, setup: Setup) -> tuple[bytes, int, str]:

@@ -96,9 +96,8 @@ class Run:
         """What decides all."""
         given, names = self.given, (self.programs.capture, self.programs.bpfrec)
         plan = Plan(bool(given.routes), given.every, given.size, given.is_audited, given.is_strict)
-        return Machine(
-            plan, Ports(self.perform, self.recorders, self.recordings, self.err), self.recordings.first(), names
-        )
+        ports = Ports(self.perform, self.recorders, self.recordings, self.err)
+        return Machine(plan, ports, self.recordings.first(), names)
 
     def made_durability(self) -> Durability:
         """What keeps recordings and their facts safe."""
