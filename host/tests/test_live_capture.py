@@ -149,7 +149,7 @@ def test_each_origin_of_the_facts_has_its_scale_and_the_first_one_as_utc(tmp_pat
 
 
 def test_facts_are_read_as_they_were_written(tmp_path: Path) -> None:
-    """By what info, convert, pcapng share."""
+    """By what all tools share."""
     for scale, moment in ((TAI, 1_764_590_400_250_000_000), (NOBODY_KNOWS, 1_764_590_437_250_000_000)):
         told = {"facts": 1, "host": "fc1", "origins": [json.loads(scale)], "losses": []}
         (tmp_path / "facts").write_text(json.dumps(told))

@@ -3,7 +3,6 @@ hold is named alone, at its place. test_whole_file_index.py has the index and th
 
 from __future__ import annotations
 
-import datetime
 import random
 import struct
 from typing import NamedTuple
@@ -33,7 +32,6 @@ from whole_file_parts import (
     without,
 )
 
-DAY = 86_400
 RECORD, SETUP, INDEX, TIME, FRAMES = 0x00, 0x01, 0x03, 0x11, 0x68
 TEN_MS = 100_000
 
@@ -87,26 +85,6 @@ def test_an_origin_that_begins_just_ahead_of_a_second_is_right() -> None:
         found = faults_of(bytes(whole_file(bytes(made.data), setup).data))
         judge_quietly(f"{milliseconds} ms ahead", found == [], found)
     judge("all are right", True)
-
-
-DATES = [
-    (datetime.date(1, 1, 1), 1),
-    (datetime.date(1969, 12, 31), DAY - 2),
-    (datetime.date(1999, 12, 31), DAY - 2),
-    (datetime.date(2000, 2, 28), DAY - 2),
-    (datetime.date(2099, 12, 31), DAY - 2),
-    (datetime.date(2100, 2, 28), DAY - 2),
-    (datetime.date(3999, 12, 31), DAY - 5),
-]
-
-
-@pytest.mark.parametrize("date, seconds", DATES, ids=str)
-def test_dates_of_all_years_are_right(date: datetime.date, seconds: int) -> None:
-    """Over the end of a day, of a year and of February."""
-    made = recorded(random.Random(seconds), [3, 4], 0, 4)
-    start = ((date.toordinal() - datetime.date(1970, 1, 1).toordinal()) * DAY + seconds) * 10**9
-    found = faults_of(bytes(whole_file(bytes(made.data), Setup((Origin(0, start),))).data))
-    judge(f"{date}", found == [], found)
 
 
 def test_the_sample_is_right() -> None:
