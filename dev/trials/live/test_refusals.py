@@ -119,6 +119,42 @@ def test_what_is_wrong_with_the_words_is_said_with_what_they_should_be(work: Pat
         judge_refused(work, words, status, told)
 
 
+TAPS = ["rx0=1", "rx1=2"]
+AUDITED = "what was audited, and --no-audit audits nothing"
+NEEDS = "--every and --size need an interface"
+# Options, what stands behind SETTINGS and OUT, and why they are refused.
+CONTRADICTIONS: list[tuple[list, list, str]] = [
+    (["--keep", 3], TAPS, "--keep and --keep-free need --every or --size"),
+    (["--every", 1, "--keep", 3, "--no-audit"], TAPS, f"--keep and --keep-free remove {AUDITED}"),
+    (["--keep", 0], TAPS, "--keep needs a number from 1 to 999999999"),
+    (["--mode", "999"], TAPS, "--mode needs a mode of three octal digits, as 0640"),
+    (["--mode", "0444"], TAPS, "--mode needs a mode by which the owner may read and write, as 0640"),
+    (["--span", 1], [], "--span needs an interface"),
+    (["--chapter11", "--no-audit"], TAPS, f"--chapter11 is made of {AUDITED}"),
+    (["--chapter11"], [], "--chapter11 needs an interface"),
+    (["--external"], TAPS, "--external is for --chapter11 and --publish"),
+    (["--every", 0], TAPS, f"--every needs a number from 1 to 999999999, {IN_SECONDS}"),
+    (["--size=1x"], TAPS, f"--size needs a number from 1 on, {IN_BYTES}"),
+    (["--size", 5], [], NEEDS),
+]
+
+
+@pytest.mark.parametrize("words, taps, told", CONTRADICTIONS)
+def test_options_that_contradict_are_refused(work: Path, words: list, taps: list, told: str) -> None:
+    (work / "told").touch()
+    given = [*words, settings_of(work), "o.ch11", *taps]
+    judge_refused(work, given, 2, told)
+    done = outcome(PREFLIGHT, "--live", *given, cwd=work)
+    judge("preflight says so too", done.returncode in (1, 2) and told in done.stdout + done.stderr, done)
+
+
+def test_a_device_is_no_name_of_recordings_that_follow(work: Path) -> None:
+    settings = settings_of(work)
+    (work / "told").touch()
+    told = "--every and --size make files, and /dev/null is not a file"
+    judge_refused(work, ["--size", 5, settings, "/dev/null", *TAPS], 2, told)
+
+
 def test_a_filter_that_can_not_be_installed_is_refused_ahead_by_its_channel(work: Path) -> None:
     (work / "jump").write_text("2,5 0 0 1,6 0 0 0,")
     (work / "wrong.bpf").write_text("nonsense\n")
@@ -186,8 +222,6 @@ def test_a_tmpdir_that_is_not_utf8_is_refused_by_name(work: Path) -> None:
 @pytest.mark.parametrize(
     "words, told",
     [
-        (["--keep", 2, "x.ch11", "rx0"], "--keep and --keep-free need --every or --size"),
-        (["--keep", 2, "--every", 1, "--no-audit", "x.ch11", "rx0"], "--no-audit audits nothing"),
         (["--status-name", "a.lan", "x.ch11", "rx0"], "--status-name needs --status"),
         (["--status", "127.0.0.1:99999", "x.ch11", "rx0"], "127.0.0.1:99999"),
         (["-", "rx0"], "-: OUT is a file or a named pipe"),

@@ -96,30 +96,6 @@ def test_keep_free_makes_room_by_the_oldest(work: Path) -> None:
         judge("the newest frames are there", left == list(range(sent - len(left), sent)) and len(left) > 0)
 
 
-def test_options_of_the_ring_that_contradict_are_refused(work: Path) -> None:
-    settings, out = settings_of(work), work / "no.ch11"
-    together = "bpfrec live: --keep and --keep-free"
-    cases: list[tuple[list[object], str]] = [
-        (["--keep", 3], f"{together} need --every or --size"),
-        (
-            ["--every", 1, "--keep", 3, "--no-audit"],
-            f"{together} remove what was audited, and --no-audit audits nothing",
-        ),
-        (["--keep", 0], "bpfrec live: --keep needs a number from 1 to 999999999"),
-        (["--keep-free", "1x"], "bpfrec live: --keep-free needs a number from 1 on, in bytes, or as 2G"),
-        (["--mode", "999"], "bpfrec live: --mode needs a mode of three octal digits, as 0640"),
-        (["--mode", "0444"], "bpfrec live: --mode needs a mode by which the owner may read and write, as 0640"),
-    ]
-    for words, line in cases:
-        running = Running(work, LIVE, *words, settings, out, "rx0=1", "rx1=2")
-        judge(f"refused: {line}", (running.ended()[0], running.told()) == (2, f"{line}\n"), running.told())
-    running = Running(work, LIVE, "--span", 1, settings, out)
-    judge(
-        "refused: --span without",
-        (running.ended()[0], running.told()) == (2, "bpfrec live: --span needs an interface\n"),
-    )
-
-
 # ---- files
 
 

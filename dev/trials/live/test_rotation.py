@@ -175,30 +175,9 @@ def refusals(work: Path, settings: Path, out: Path) -> list[tuple]:
     own = work / "own.toml"
     tables = [f'[[channel]]\nid = {channel}\nfilter = "{work}/all"\n' for channel in (1, 5)]
     own.write_text("".join(tables) + 'feed = "own"\n')
-    needs = "bpfrec live: --every and --size need an interface"
+    needs = f"--every and --size need an interface for each channel, and 5 of {own} has none"
     return [
-        (["--every", 1, own, out, "rx0=1"], 2, f"{needs} for each channel, and 5 of {own} has none"),
-        (
-            ["--every", 0, settings, out, "rx0=1", "rx1=2"],
-            2,
-            "bpfrec live: --every needs a number from 1 to 999999999, in seconds, or as 10m",
-        ),
-        (
-            ["--size=1x", settings, out, "rx0=1", "rx1=2"],
-            2,
-            "bpfrec live: --size needs a number from 1 on, in bytes, or as 2G",
-        ),
-        (["--size", 5, settings, out], 2, needs),
-        (
-            ["--size", 5, settings, "/dev/null", "rx0=1", "rx1=2"],
-            2,
-            "bpfrec live: --every and --size make files, and /dev/null is not a file",
-        ),
-        (
-            ["--size", 5, settings, work / "no/x.ch11", "rx0=1", "rx1=2"],
-            3,
-            f"bpfrec live: {work}/no/x.ch11: no such folder",
-        ),
+        (["--every", 1, own, out, "rx0=1"], 2, f"bpfrec live: {needs}"),
         (["--quiet", "--size", 5, settings, out, "rx0=1", "nowhere0=2"], 3, "capture: nowhere0: no such interface"),
     ]
 

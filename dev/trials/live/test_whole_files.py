@@ -187,24 +187,3 @@ def test_a_killed_run_leaves_no_file_of_that_name(work: Path) -> None:
     running.process.kill()
     running.process.wait()
     judge("it has no name yet", not whole_file(out).exists() and is_approved(out))
-
-
-def test_options_that_contradict_are_refused(work: Path) -> None:
-    settings, out = settings_of(work), work / "no.ch11"
-    cases = {
-        (
-            "--no-audit",
-            "rx0=1",
-            "rx1=2",
-        ): "bpfrec live: --chapter11 is made of what was audited, and --no-audit audits nothing",
-        (): "bpfrec live: --chapter11 needs an interface",
-    }
-    for words, line in cases.items():
-        options = [it for it in words if it.startswith("-")]
-        running = Running(work, LIVE, "--chapter11", *options, settings, out, *words[len(options) :])
-        judge(f"refused: {line}", (running.ended()[0], running.told()) == (2, f"{line}\n"), running.told())
-    running = Running(work, LIVE, "--external", settings, out, "rx0=1", "rx1=2")
-    line = "bpfrec live: --external is for --chapter11 and --publish"
-    judge(
-        "and where there is no setup record", (running.ended()[0], running.told()) == (2, f"{line}\n"), running.told()
-    )
