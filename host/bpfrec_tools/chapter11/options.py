@@ -6,7 +6,7 @@ from __future__ import annotations
 import argparse
 import re
 
-from bpfrec_tools.cli.arguments import natural
+from bpfrec_tools.cli.arguments import natural_up_to
 
 # By how many seconds SETUP takes a clock to be ahead, at most.
 MAX_AHEAD = 255
@@ -51,10 +51,7 @@ def comment_of(text: str) -> str:
 
 def ahead_of(word: str) -> int:
     """The seconds by which TAI is ahead."""
-    number = natural(word)
-    if number > MAX_AHEAD:
-        raise argparse.ArgumentTypeError(f"{word} is no number of seconds up to {MAX_AHEAD}")
-    return number
+    return natural_up_to(word, MAX_AHEAD, f"number of seconds up to {MAX_AHEAD}")
 
 
 def attribute_of(word: str) -> str:

@@ -10,7 +10,7 @@ from typing import Any, NamedTuple, Optional, Union
 
 from bpfrec.formats.limits import MAX_BYTE
 from bpfrec.formats.transfer import DATAGRAM_STEP, MAX_DATAGRAM_LEN, MIN_DATAGRAM_LEN
-from bpfrec_tools.cli.arguments import natural
+from bpfrec_tools.cli.arguments import natural, natural_up_to
 
 WORD = re.compile(
     r"(?:(?P<plain>[0-9.]{7,15})|\[(?P<bracketed>[0-9a-fA-F:.]{2,45})(?:%(?P<zone>[^\]\s/%]{1,15}))?\])"
@@ -61,10 +61,7 @@ def udp_address(word: str) -> UdpAddress:
 
 def ttl_of(word: str) -> int:
     """The hops that a word says."""
-    number = natural(word)
-    if number > MAX_BYTE:
-        raise argparse.ArgumentTypeError(f"{word} is no number from 0 to {MAX_BYTE}")
-    return number
+    return natural_up_to(word, MAX_BYTE, f"number from 0 to {MAX_BYTE}")
 
 
 def length_of(word: str) -> int:

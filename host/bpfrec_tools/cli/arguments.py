@@ -50,10 +50,7 @@ class Parser(argparse.ArgumentParser):
 
 def channel_id(word: str) -> int:
     """The channel ID that a word is."""
-    number = natural(word)
-    if number > MAX_CHANNEL_ID:
-        raise argparse.ArgumentTypeError(f"{word} is no channel ID, 0 to {MAX_CHANNEL_ID}")
-    return number
+    return natural_up_to(word, MAX_CHANNEL_ID, f"channel ID, 0 to {MAX_CHANNEL_ID}")
 
 
 def natural(word: str) -> int:
@@ -61,3 +58,11 @@ def natural(word: str) -> int:
     if not word.isascii() or not word.isdigit():
         raise argparse.ArgumentTypeError(f"{word} is no number")
     return int(word)
+
+
+def natural_up_to(word: str, most: int, what: str) -> int:
+    """The same of a number that is at most another one; `what` says what a greater one isn't."""
+    number = natural(word)
+    if number > most:
+        raise argparse.ArgumentTypeError(f"{word} is no {what}")
+    return number
