@@ -77,6 +77,7 @@ def test_each_folder_of_modules_is_a_package_that_git_keeps() -> None:
 def test_the_second_opinion_imports_nothing_but_itself() -> None:
     """And nothing of the rest has its readers, but bpfrec check, which asks it."""
     names = {top(name) for found in all_imported("second").values() for name in found}
+    names |= {top(it) for it in imported(HOST / "second/check_sums")}
     judge("the standard library", names <= {*sys.stdlib_module_names, "second"}, names)
     every = {**all_imported("bpfrec"), **all_imported("bpfrec_tools")}
     askers = [path for path, found in every.items() if "second" in map(top, found)]

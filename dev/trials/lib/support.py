@@ -23,7 +23,7 @@ CAPTURE = Path(os.environ.get("CAPTURE") or ROOT / "bin/capture")
 # The command as users call it; and each tool by a name of its own, for a trial that starts it alone.
 COMMAND, TOOLS = ROOT / "host/bin/bpfrec", ROOT / "dev/trials/lib/tools"
 LIVE, INFO, EXPORT, SALVAGE, PREFLIGHT = (TOOLS / it for it in ("live", "info", "export", "salvage", "preflight"))
-CHECK = TOOLS / "check"
+CHECK, CHECK_SUMS = TOOLS / "check", ROOT / "host/second/check_sums"
 # What a trial may want that a build makes, and the packages of programs that are named otherwise.
 BUILT = {"bin/bpfrec": BPFREC, "bin/capture": CAPTURE}
 PACKAGES = {

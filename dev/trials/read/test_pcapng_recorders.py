@@ -6,7 +6,7 @@ from pathlib import Path
 
 import pytest
 from frames import FRAMES, body_of, numbered, packet_of, program_packet, with_check_sequence
-from pcapng import described
+from pcapng_blocks import COMMENT, INTERFACE, PACKET, blocks_in
 from seen_frames import seen_in
 from several_recorders import facts_by, recording_at
 from support import EXPORT, INFO, judge, outcome, run
@@ -147,7 +147,8 @@ def test_a_filter_has_its_words_and_is_said_where_it_changes(work: Path) -> None
     for number, each in enumerate(filters):
         recording_of_filters(work / f"run_0000{number}.ch11", each, 10 * number)
     run(EXPORT, work / "run.ch11", work / "run.pcapng")
-    first, *comments = [it.comment for it in described((work / "run.pcapng").read_bytes())]
+    blocks = blocks_in((work / "run.pcapng").read_bytes())
+    first, *comments = [it.text(COMMENT) for it in blocks if it.kind in (INTERFACE, PACKET)]
     judge("ahead", first.startswith("filter version 0, 1 instructions: udp\nret #1\nchannel 1: "), first)
     changes = [
         "",

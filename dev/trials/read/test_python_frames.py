@@ -20,9 +20,8 @@ from pythons import PROMISED, interpreter
 from reading import SEED, recording_of_three
 from recorder import extracted
 from rows import flight_of
-from second_opinion import opinion_of
 from seen_frames import channels_of
-from support import BPFREC, EXPORT, ROOT, judge, judge_quietly, outcome, run
+from support import BPFREC, CHECK_SUMS, EXPORT, ROOT, judge, judge_quietly, outcome, run
 from whole_file import Origin, Setup, whole_file
 from whole_file_parts import recorded
 
@@ -173,11 +172,11 @@ def test_damaged_places_are_skipped_and_listed(work: Path, turn: int) -> None:
 
 
 @pytest.mark.parametrize("turn", range(DRAWN))
-def test_times_of_whole_files_are_those_of_a_second_opinion(work: Path, turn: int) -> None:
+def test_times_of_whole_files_are_those_of_check_sums(work: Path, turn: int) -> None:
     draw = random.Random(SEED + turn)
     made, path = recorded(draw, [3, 9], draw.randrange(2**40), 20), work / "x.ch10"
     path.write_bytes(whole_file(bytes(made.data), Setup((Origin(0, 1_764_590_400_250_000_123),))).data)
-    lines = [it.split() for it in opinion_of(path.read_bytes(), True).lines]
+    lines = [it.split() for it in run(CHECK_SUMS, "--frames", path).splitlines()]
     wanted = [(int(it[1]), it[0], int(it[2])) for it in lines if it[0].startswith("20")]
     found = []
     for frame in bpfrec.open(path):

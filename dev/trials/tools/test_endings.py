@@ -16,6 +16,7 @@ from reading import SAMPLES
 from recorder import make_feed, write_settings
 from support import (
     CHECK,
+    CHECK_SUMS,
     EXPORT,
     INFO,
     LIVE,
@@ -36,6 +37,7 @@ FULL, CLOSED = "No space left on device", "Bad file descriptor"
 PRINTING = (
     "chapter11",
     "check",
+    "check_sums",
     "info",
     "info_json",
     "pcapng",
@@ -43,7 +45,7 @@ PRINTING = (
     "preflight",
     "follow",
 )
-WAITING = ("check", "info", "pcapng", "salvage")
+WAITING = ("check", "check_sums", "info", "pcapng", "salvage")
 SECONDS = 60
 # What Python itself may say in place of MemoryError, of sources that it knows to be right; hashlib logs what it can't load.
 FAULTS_OF_PYTHON = ("SystemError: error return without exception set", "SyntaxError: ", "ERROR:root:code for hash ")
@@ -56,7 +58,7 @@ def name_of(tool: str) -> str:
         "pcapng": "export",
         "chapter11": "export",
     }
-    return f"bpfrec {verb.get(tool, tool)}"
+    return tool if tool == "check_sums" else f"bpfrec {verb.get(tool, tool)}"
 
 
 def words_of(work: Path, tool: str, given: Path | None = None) -> list:
@@ -67,6 +69,7 @@ def words_of(work: Path, tool: str, given: Path | None = None) -> list:
     words: dict[str, list[object]] = {
         "chapter11": [EXPORT, "--print-setup", "--origin", "0", recording],
         "check": [CHECK, "--no-audit", recording],
+        "check_sums": [CHECK_SUMS, recording],
         "info": [INFO, recording],
         "info_json": [INFO, "--json", recording],
         # It reads regular files alone, so it is its OUT that it waits for.
@@ -135,9 +138,9 @@ def large_input() -> bytes:
     return packet_of(1, frames, 0, 0x68, 0, True) * 5
 
 
-@pytest.mark.parametrize("tool", [it for it in WAITING if it not in ("check", "pcapng")])
+@pytest.mark.parametrize("tool", [it for it in WAITING if it not in ("check", "check_sums", "pcapng")])
 def test_out_of_memory_is_said_in_a_line(work: Path, tool: str) -> None:
-    """Memory ends when the input begins. check takes none for what it reads."""
+    """Memory ends when the input begins. check and check_sums take none for what they read."""
     running, pipe = begin_waiting(work, tool)
     size = int(Path(f"/proc/{running.pid}/statm").read_text().split()[0]) * resource.getpagesize()
     resource.prlimit(running.pid, resource.RLIMIT_AS, (size + MEBIBYTE // 8, size + MEBIBYTE // 8))
