@@ -5,7 +5,7 @@ from pathlib import Path
 import pytest
 from bpfrec.formats.settings import settings_of
 from bpfrec_tools.live.ahead import refuse_without_id
-from bpfrec_tools.live.arguments import arguments_of, given_by
+from bpfrec_tools.live.arguments import arguments_of, given_by, read
 from bpfrec_tools.live.kept.names import Refusal
 from bpfrec_tools.preflight.flights import judge_flight
 from bpfrec_tools.preflight.live import judge_live
@@ -44,6 +44,13 @@ def test_live_names_the_file_and_the_line(work: Path) -> None:
     refuse_without_id(settings_of("s.toml", "[[channel]]\nid = 1\n"))
 
 
+def channels(*named: str) -> str:
+    """Channels from 1 on, each with its name and its interface."""
+    keys = [it.rpartition(" ")[::2] for it in named]
+    tables = [f'[[channel]]\nid = {at}\nname = "{name}"\ninterface = "{it}"\n' for at, (name, it) in enumerate(keys, 1)]
+    return "".join(tables)
+
+
 NAMED = "and it must be a name in quotes"
 WRONG = {
     "run = 3\n": ["flight.toml:1: run: a number, and it must be a table, as [run] begins it"],
@@ -57,7 +64,24 @@ WRONG = {
         "flight.toml:5: --publish y: needs ADDRESS:PORT or [ADDRESS]:PORT, as 239.1.2.3:50000",
         "flight.toml:6: --span needs a number from 0.000001 to 28147497, in seconds, or as 100ms, or 0",
     ],
+    f'{RUN}{channels("2 eth0", "bus A eth1", "bus A eth2", "eth4 eth3", "eth4 eth4")}': [
+        "flight.toml:6: channel 1: name: 2 is a number, as IDs are",
+        "flight.toml:14: channel 3: name: bus A names channel 2 too",
+        "flight.toml:18: channel 4: name: eth4 names channel 5 too",
+    ],
 }
+
+
+def test_live_refuses_a_name_that_another_channel_has(work: Path, monkeypatch: pytest.MonkeyPatch) -> None:
+    monkeypatch.chdir(work)
+    Path("flight.toml").write_text(RUN + channels("bus A eth0", "bus A eth1"))
+    with pytest.raises(Refusal) as caught:
+        read(["flight.toml"])
+    line = "bpfrec live: flight.toml: channel 2: name: bus A names channel 1 too"
+    judge("first", (caught.value.status, caught.value.line) == (2, line), caught.value.line)
+    Path("flight.toml").write_text(RUN + channels("eth2 eth0", "bus B eth1"))
+    with pytest.raises(Refusal, match="channel 1: name: eth2 is the interface of channel 2"):
+        read(["flight.toml", "eth2=2"])
 
 
 @pytest.mark.parametrize("text", WRONG)

@@ -229,4 +229,11 @@ def arguments_of(line: Given) -> Arguments:
     setup = setup_arguments(given)
     given.targets = [it._replace(setup=tuple(setup)) for it in given.targets]
     asked = {name: value for name, value in vars(given).items() if name in Arguments._fields}
-    return Arguments(**operands_of(operands)._asdict(), **asked, setup=setup)
+    found = operands_of(operands)
+    names = {name: channel for channel, name in line.flight.names().items()} if line.flight else {}
+    for route in found.routes:
+        named = names.get(route.interface, route.channel)
+        if named != route.channel:
+            what = f"{route.interface} is the interface of channel {route.channel}"
+            raise Refusal(2, f"bpfrec live: {operands[0]}: channel {named}: name: {what}")
+    return Arguments(**found._asdict(), **asked, setup=setup)

@@ -6,7 +6,7 @@ from __future__ import annotations
 import os
 from typing import Any, Iterator, NamedTuple, Optional
 
-from bpfrec.formats.settings import NoReader, NoToml, Settings, settings_of, type_of
+from bpfrec.formats.settings import Channel, NoReader, NoToml, Settings, settings_of, type_of
 from bpfrec_tools.cli.arguments import Parser, nearest
 from bpfrec_tools.live.operands import is_route
 
@@ -39,10 +39,13 @@ class Flight(NamedTuple):
         """Which interface is which channel."""
         return texts_of(self.settings, "interface")
 
+    def names(self) -> dict[int, str]:
+        """The names of channels."""
+        return texts_of(self.settings, "name")
+
     def shown_name(self, channel: int) -> str:
         """The name of a channel behind its ID; nothing where it has none."""
-        names = texts_of(self.settings, "name")
-        return f" ({names[channel]})" if channel in names else ""
+        return f" ({self.names()[channel]})" if channel in self.names() else ""
 
     def out(self) -> Optional[str]:
         """The OUT that it names."""
@@ -96,10 +99,26 @@ def faults_of(flight: Flight, made: Parser, given: list[str]) -> Iterator[Fault]
             if value is not None and not is_name(value):
                 what = f"{channel.name}: {key}: {type_of(value)}, and it must be a name in quotes"
                 yield Fault(channel.line(key), channel.table, key, what)
+    for channel, what in name_faults(settings):
+        yield Fault(channel.line("name"), channel.table, "name", f"{channel.name}: name: {what}")
     for key, value in flight.run.items():
         what = key_fault(key, value, made, given)
         if what:
             yield Fault(settings.line_in(RUN, key), flight.run, key, f"[run] {what}")
+
+
+def name_faults(settings: Settings) -> Iterator[tuple[Channel, str]]:
+    """What is wrong with names by which lines would find another channel."""
+    taken = {it.table["interface"]: it for it in settings.channels if is_name(it.table.get("interface"))}
+    for channel in settings.channels:
+        name = channel.path("name")
+        if name is None or not is_name(name):
+            continue
+        other = taken.setdefault(name, channel)
+        if name.strip().isdecimal():
+            yield channel, f"{name} is a number, as IDs are"
+        elif other is not channel:
+            yield channel, f"{name} names {other.name} too"
 
 
 def run_fault(settings: Settings) -> str:
