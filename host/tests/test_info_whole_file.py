@@ -17,7 +17,7 @@ from bpfrec_tools.info.page import page_parts
 from bpfrec_tools.info.text import text_parts
 from expected_facts import facts_of_run
 from reading import SAMPLES
-from support import judge, judge_quietly
+from support import EXPORT, INFO, judge, judge_quietly, outcome
 from whole_file import TIME, Origin, Setup, whole_file
 from whole_file_clock import rules_of
 from whole_file_parts import ORIGIN, SECOND, parts_of, place_of, recorded, sample
@@ -173,3 +173,21 @@ def test_hostile_files_are_read_to_their_end(whole: Path) -> None:
         said_of(whole)
         text_of(whole)
     judge("none ends by a fault", True)
+
+
+def test_a_page_and_a_recording_may_be_standard_streams(whole: Path, monkeypatch: pytest.MonkeyPatch) -> None:
+    monkeypatch.chdir(whole.parent)
+    page = outcome(INFO, "--html", "-", whole.name).stdout
+    judge("a page is printed, and no file is made", page.startswith("<!DOCTYPE html>") and not Path("-").exists())
+    with open(whole, "rb") as given:
+        done = outcome(INFO, "--quiet", "-", stdin=given)
+    judge("standard input is read", done.stdout == outcome(INFO, "--quiet", whole.name).stdout, done)
+    done = outcome(INFO, "--html", "-", "--json", whole)
+    judge("both are refused", done.returncode == 2 and "--html - takes standard output" in done.stderr, done)
+
+
+def test_a_whole_file_is_not_made_on_standard_output(whole: Path, monkeypatch: pytest.MonkeyPatch) -> None:
+    monkeypatch.chdir(whole.parent)
+    done = outcome(EXPORT, "--as", "chapter11", "--origin", 5, whole, "-")
+    line = "bpfrec export: -: it is standard output, and a whole file is written twice, so OUT is a file\n"
+    judge("refused", (done.returncode, done.stderr, Path("-").exists()) == (2, line, False), done)

@@ -13,7 +13,8 @@ from pathlib import Path
 import pytest
 from bpfrec.formats.limits import CHANNEL_KEYS
 from bpfrec.formats.names import Names
-from bpfrec_tools.live import arguments, operands
+from bpfrec_tools import completing
+from bpfrec_tools.live import arguments, capture_options, operands
 from bpfrec_tools.live.help import MORE
 from bpfrec_tools.live.kept import names
 from bpfrec_tools.live.kept.keeper import Keeper
@@ -21,7 +22,7 @@ from bpfrec_tools.live.kept.names import Files, Refusal
 from bpfrec_tools.live.parts import expressions, folder
 from bpfrec_tools.live.reports import notify
 from service import Manager
-from support import judge, judge_quietly, wait_for
+from support import ROOT, judge, judge_quietly, wait_for
 
 # ---- the command line
 
@@ -84,12 +85,20 @@ def test_options_of_the_capture_keep_their_order() -> None:
         (["--origin"], "bpfrec live: --origin needs a value"),
         (["--every"], "bpfrec live: --every needs a value"),
         (["--size", "0"], "bpfrec live: --size needs a number from 1 on, in bytes, or as 2G"),
+        (["--direction", "sideways", "o", "lo"], "bpfrec live: --direction needs one of both, in, out"),
+        (["--clock=hst", "o", "lo"], "bpfrec live: --clock needs one of host, adapter"),
         (["--nonsense", "x", "y"], "bpfrec live: no such option: --nonsense"),
         (["-x", "a", "b"], "bpfrec live: no such option: -x"),
         (["--eve", "3"], "bpfrec live: no such option: --eve: did you mean --every?"),
     ]:
         judge_quietly(f"{words_given}", refused(functools.partial(arguments.read, words_given)) == (2, line))
     judge("what is wrong is said in one line", True)
+    offers = completing.offers_for(["live", "--check-sequence", ""])
+    judge("choices are offered", offers == ["adapter", "given", "missing"], offers)
+    source = (ROOT / "capture/src/arguments.c").read_text()
+    for choices in filter(None, capture_options.VALUED.values()):
+        words = ", ".join(f'"{it}"' for it in choices)
+        judge_quietly(f"the capture has {words}", f"{{{words}, NULL}}" in source)
 
 
 def test_names_of_recordings_that_are_taken_are_passed(work: Path) -> None:

@@ -64,6 +64,11 @@ WRONG = {
         "flight.toml:5: --publish y: needs ADDRESS:PORT or [ADDRESS]:PORT, as 239.1.2.3:50000",
         "flight.toml:6: --span needs a number from 0.000001 to 28147497, in seconds, or as 100ms, or 0",
     ],
+    f'{RUN}direction = "sideways"\nclock = "hst"\ncheck_sequence = "none"\n': [
+        "flight.toml:4: --direction needs one of both, in, out",
+        "flight.toml:5: --clock needs one of host, adapter",
+        "flight.toml:6: --check-sequence needs one of adapter, given, missing",
+    ],
     f'{RUN}{channels("2 eth0", "bus A eth1", "bus A eth2", "eth4 eth3", "eth4 eth4")}': [
         "flight.toml:6: channel 1: name: 2 is a number, as IDs are",
         "flight.toml:14: channel 3: name: bus A names channel 2 too",

@@ -165,6 +165,8 @@ def make(given: argparse.Namespace) -> int:
     """Makes the whole Chapter 11 file of recordings: the status."""
     if STREAM in given.recordings:
         raise Unusable(f"{STREAM}: it is standard input, and a whole file is made by reading twice")
+    if given.out == STREAM:
+        raise Unusable(f"{STREAM}: it is standard output, and a whole file is written twice, so OUT is a file")
     if len(given.recordings) > 1:
         make_of_several(given)
     else:

@@ -14,7 +14,7 @@ from bpfrec.formats.names import all_of, facts_path
 from bpfrec_tools.cli import printing
 from bpfrec_tools.cli.arguments import Parser, name_of
 from bpfrec_tools.cli.program import Audit, audit_of
-from bpfrec_tools.cli.streams import STREAM, input_at
+from bpfrec_tools.cli.streams import STREAM, created, input_at
 from bpfrec_tools.info.as_json import object_of
 from bpfrec_tools.info.contents import MOST_PLACES, MOST_SECONDS, Recording, read
 from bpfrec_tools.info.facts_file import FactsFile, facts_beside
@@ -56,11 +56,15 @@ versions of a channel's filter; all are counted.
 A RECORDING.json that can't be read, or has no facts of a recording, is reported on standard error, and changes neither
 the rest nor the status.
 
+RECORDING `-` is standard input, and FILE `-` is standard output.
+
 It runs bpfrec: what BPFREC names, or the one beside it; without it there is no audit and no text of filters.
 
 Status: 0 it is read to its end, 1 it isn't, 2 the arguments are wrong, 3 a file can't be read or written, 4 out of
 memory.
 """
+# What `-` is, as a path that can be opened.
+STANDARD_INPUT = "/dev/stdin"
 
 
 def parser() -> Parser:
@@ -76,12 +80,8 @@ def parser() -> Parser:
 def write_page(path: str, name: str, recording: Recording, audit: Audit, beside: Optional[FactsFile]) -> None:
     """Writes the page of a recording of this name; not in the place of the recording or of its facts."""
     judge_output(path, name)
-    try:
-        with open(path, "w", encoding="utf-8") as file:
-            file.writelines(page_parts(os.path.basename(name), recording, audit, beside))
-    except OSError as error:
-        error.filename = error.filename or path
-        raise
+    with created(path) as file:
+        file.writelines(it.encode() for it in page_parts(os.path.basename(name), recording, audit, beside))
 
 
 def judge_output(path: str, recording: str) -> None:
@@ -140,7 +140,9 @@ def run(arguments: list[str]) -> int:
     """Tells what is in recordings: the status."""
     made = parser()
     given = made.parse_args(arguments)
-    paths = [path for it in given.recordings for path in all_of(it)]
+    if given.json and given.html == STREAM:
+        made.error("--html - takes standard output, and --json that too")
+    paths = [path for it in given.recordings for path in all_of(STANDARD_INPUT if it == STREAM else it)]
     if given.html and len(paths) > 1:
         made.error("--html is for one recording")
     found = [part_at(it, given.quiet) for it in paths]

@@ -100,6 +100,9 @@ class LiveParser(Parser):
 
 def fault_of(message: str, options: list[str]) -> str:
     """A fault of argparse in the words of live, which has these options."""
+    found = re.fullmatch(r"argument (--[a-z-]+): invalid choice: .*\(choose from (.*)\)", message)
+    if found:
+        return f"{found[1]} needs one of {found[2]}".replace("'", "")
     found = re.fullmatch(r"argument (--[a-z-]+): (.*)", message)
     if found:
         return f"{found[1]} {'needs a value' if found[2].startswith('expected') else found[2]}"

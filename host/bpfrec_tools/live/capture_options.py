@@ -12,9 +12,15 @@ from bpfrec.formats.facts import utc_of
 from bpfrec_tools.cli.moments import last_to, time_of_day
 from bpfrec_tools.cli.quantities import size
 
-# Those with a value, and those without.
+# Those with a value, of which some are a choice, and those without.
 ORIGIN, BUFFER = "--origin", "--buffer"
-VALUED = (ORIGIN, BUFFER, "--direction", "--clock", "--check-sequence")
+VALUED: dict[str, Optional[tuple[str, ...]]] = {
+    ORIGIN: None,
+    BUFFER: None,
+    "--direction": ("both", "in", "out"),
+    "--clock": ("host", "adapter"),
+    "--check-sequence": ("adapter", "given", "missing"),
+}
 PLAIN = ("--quiet", "--no-promiscuous")
 MEBIBYTE = 1 << 20
 
@@ -22,8 +28,8 @@ MEBIBYTE = 1 << 20
 def add_capture_options(parser: argparse.ArgumentParser) -> None:
     """Has a parser take them, as a list `options`."""
     options: list[str] = []
-    for option in VALUED:
-        parser.add_argument(option, metavar="VALUE", action=kept(options), help="as for capture")
+    for option, choices in VALUED.items():
+        parser.add_argument(option, metavar="VALUE", choices=choices, action=kept(options), help="as for capture")
     for option in PLAIN:
         parser.add_argument(option, nargs=0, action=kept(options), help="as for capture")
     parser.set_defaults(options=options)
