@@ -5,13 +5,15 @@ from __future__ import annotations
 import fcntl
 import json
 import os
+import shutil
 from pathlib import Path
 
 import pytest
 from bpfrec.formats.names import Names, names_of
 from bpfrec_tools.cli.streams import Refused
 from bpfrec_tools.follow.growing import facts_of, first_of, following, is_written
-from support import judge
+from reading import SAMPLES
+from support import EXPORT, TOOLS, judge, outcome
 
 # 2026-01-02, in nanoseconds since 1970.
 SECOND_DAY = 1_767_312_000 * 10**9
@@ -92,3 +94,22 @@ def test_a_lock_says_that_it_is_written(work: Path) -> None:
         judge("nobody has it", not is_written(file.name))
         fcntl.flock(file, fcntl.LOCK_EX)
         judge("somebody has it", is_written(file.name))
+
+
+def test_a_channel_is_followed_by_its_name(work: Path) -> None:
+    path = work / "f.ch11"
+    write(path, "2026-01-02T00:00:00Z", "ended")
+    shutil.copy(SAMPLES[1], path)
+    told = json.loads(Path(f"{path}.json").read_text())
+    told["interfaces"] = [{"interface": "eth0", "channel": 1, "name": "bus A"}, {"interface": "eth1", "channel": 8}]
+    Path(f"{path}.json").write_text(json.dumps(told))
+    follow = [TOOLS / "follow", "--channel"]
+    by_id = outcome(*follow, 1, path, text=False)
+    judge("it has frames", by_id.returncode == 0 and b"frames 0" not in by_id.stderr, by_id.stderr)
+    for name in ("bus A", "eth0", "bus A (eth0) of h"):
+        judge(name, outcome(*follow, name, path, text=False).stdout == by_id.stdout)
+    judge("another has none", b"frames 0" in outcome(*follow, "eth1", path, text=False).stderr)
+    for words in ([*follow, "bus B", path], [EXPORT, "--channel", "bus B", path, work / "o.pcapng"]):
+        done = outcome(*words, errors="replace")
+        line = f"{path}: no channel bus B: 1 bus A (eth0)"
+        judge(line, done.returncode == 1 and line in done.stderr, done)

@@ -20,7 +20,7 @@ from reading import SAMPLES
 from support import EXPORT, INFO, judge, judge_quietly, outcome
 from whole_file import TIME, Origin, Setup, whole_file
 from whole_file_clock import rules_of
-from whole_file_parts import ORIGIN, SECOND, parts_of, place_of, recorded, sample
+from whole_file_parts import ORIGIN, SAMPLE_SETUP, SECOND, parts_of, place_of, recorded, sample, sample_recording
 
 SETUP = 0x01
 AUDIT = Audit("yes other 10", None)
@@ -191,3 +191,13 @@ def test_a_whole_file_is_not_made_on_standard_output(whole: Path, monkeypatch: p
     done = outcome(EXPORT, "--as", "chapter11", "--origin", 5, whole, "-")
     line = "bpfrec export: -: it is standard output, and a whole file is written twice, so OUT is a file\n"
     judge("refused", (done.returncode, done.stderr, Path("-").exists()) == (2, line, False), done)
+
+
+def test_a_whole_file_knows_channels_by_their_names_and_interfaces(work: Path) -> None:
+    data = whole_file(sample_recording(), SAMPLE_SETUP._replace(channels={5: ("bus A (eth5)", 3), 9: ("wing", 0)})).data
+    (work / "flight.ch10").write_bytes(bytes(data))
+    for name in ("bus A", "eth5", "bus A (eth5)", "bus A (eth5) of bench 3", "wing"):
+        done = outcome(EXPORT, "--force", "--channel", name, work / "flight.ch10", work / "o.pcapng")
+        judge(name, (done.returncode, done.stdout) == (0, "frames 8 skipped 0\n"), done)
+    done = outcome(EXPORT, "--channel", "eth6", work / "flight.ch10", work / "x.pcapng")
+    judge("another", "no channel eth6: 5 bus A (eth5), 9 wing" in done.stderr, done)

@@ -89,6 +89,17 @@ def test_live_refuses_a_name_that_another_channel_has(work: Path, monkeypatch: p
         read(["flight.toml", "eth2=2"])
 
 
+def test_an_interface_may_be_given_a_channel_by_its_name(work: Path, monkeypatch: pytest.MonkeyPatch) -> None:
+    monkeypatch.chdir(work)
+    Path("flight.toml").write_text(RUN + channels("bus A eth0", "bus B eth1"))
+    given = read(["flight.toml", "bus B", "eth5=bus B:tcp[0] = 5", "eth6=1"])
+    routes = [("eth5", 2, "tcp[0] = 5"), ("eth6", 1, None)]
+    judge("by its name", [tuple(it) for it in given.routes] == routes, given.routes)
+    judge("and no other operand is one", given.out == "bus B", given.out)
+    with pytest.raises(Refusal, match="^bpfrec live: eth5=bus C:arp: no channel bus C: 1 bus A, 2 bus B$"):
+        read(["flight.toml", "out", "eth5=bus C:arp"])
+
+
 @pytest.mark.parametrize("text", WRONG)
 def test_each_fault_of_a_flight_is_named(
     work: Path, monkeypatch: pytest.MonkeyPatch, capsys: pytest.CaptureFixture, text: str

@@ -242,7 +242,7 @@ def test_a_channel_may_be_named_with_its_host(work: Path) -> None:
 def test_an_interface_that_is_not_known_is_refused(work: Path, has_facts: bool) -> None:
     one = recording_at(work / "one.ch11", [0], 1, facts_by("fc1", "eth0") if has_facts else None)
     done = outcome(EXPORT, "--channel", "eth9", one, work / "out.pcapng")
-    told = "no channel eth9" if has_facts else "no facts beside it, so --channel takes numbers, as 1"
+    told = "no channel eth9: 1 eth0" if has_facts else "no facts beside it, so --channel takes numbers, as 1"
     judge("refused", (done.returncode, done.stderr) == (1, f"bpfrec export: {one}: {told}\n"), done)
 
 

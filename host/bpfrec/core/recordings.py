@@ -60,10 +60,7 @@ class Recording:
     def channels_of(self, asked: Union[int, str]) -> set[int]:
         """The channels of an ID, of an interface, of a name, or of what they are called with their host."""
         facts = self.facts
-        if facts is None:
-            return {it for it in self.index.channels if it == asked}
-        names = {it: f"{facts.shown_name(it)} of {facts.host}" for it in self.index.channels}
-        return {it for it in names if asked in (it, facts.interfaces.get(it), facts.names.get(it), names[it])}
+        return {it for it in self.index.channels if (facts.is_called(it, asked) if facts else it == asked)}
 
 
 def last_moments(recordings: Iterable[Recording]) -> dict[Run, int]:

@@ -136,6 +136,12 @@ class Facts:
         """The same of all channels."""
         return {it: self.shown_name(it) or "" for it in {**self.interfaces, **self.names}}
 
+    def is_called(self, channel: int, asked: Union[int, str]) -> bool:
+        """Whether a channel has this ID, interface or name, or is called so, also with its host."""
+        shown = self.shown_name(channel)
+        called = (channel, self.interfaces.get(channel), self.names.get(channel), shown, f"{shown} of {self.host}")
+        return asked in called
+
     def moment_of(self, counter: int) -> Optional[int]:
         """The moment of a frame with this counter, in nanoseconds since 1970, which is UTC but where nobody knows the
         origin's scale; None where there is no origin."""

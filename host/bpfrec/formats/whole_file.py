@@ -17,6 +17,8 @@ MOST_SETUP_LENGTH = 134_217_728
 WORD, WORD_LEN = bytes((0x0C, 0, 0, 0)), 4
 LINE_END, LINES = ";\r\n", re.compile(r"(?:[ -9<-~]+:[ -:<-~]*;\r\n)*")
 CHANNEL_LINE, OF_FRAMES = re.compile(r"R-1\\TK1-([0-9]{1,5})"), "ETHIN"
+# What a channel is called that has a name beside its interface.
+NAMED = re.compile(r"(.+) \((.+)\)")
 # Of the word of a time packet: a real-time clock, with day, month and year.
 CLOCK_BITS, CLOCK = 0x2F0, 0x230
 TIME_LEN, HUNDREDTH, TICKS_A_HUNDREDTH = 12, timedelta(milliseconds=10), 100_000
@@ -124,10 +126,18 @@ class WholeFile:
             {"origin": seconds_of(it.zero() * NANOSECONDS_A_TICK), "counter": at}
             for at, it in zip(counters, self.clocks)
         ]
-        interfaces = [{"channel": number, "interface": name} for number, name in self.names().items()]
+        interfaces: list[dict[str, Any]] = [
+            {"channel": number, **called(name)} for number, name in self.names().items()
+        ]
         said: dict[str, Any] = {"facts": 1, "origins": origins, "losses": [], "interfaces": interfaces}
         host, program = (self.setup.host, self.setup.program) if self.setup else (None, None)
         return Facts({**said, "host": (host or "")[:MAX_HOST_LEN], "program": program or ""})
+
+
+def called(shown: str) -> dict[str, str]:
+    """The interface of a channel of the setup record, and its name where it has one."""
+    found = NAMED.fullmatch(shown)
+    return {"name": found[1], "interface": found[2]} if found else {"interface": shown}
 
 
 def is_own(kind: int) -> bool:

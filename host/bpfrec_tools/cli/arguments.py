@@ -5,7 +5,7 @@ from __future__ import annotations
 import argparse
 import difflib
 from collections.abc import Iterable
-from typing import IO, NoReturn, Optional
+from typing import IO, NoReturn, Optional, Union
 
 from bpfrec.formats.limits import MAX_CHANNEL_ID
 from bpfrec_tools.cli import printing
@@ -51,6 +51,16 @@ class Parser(argparse.ArgumentParser):
 def channel_id(word: str) -> int:
     """The channel ID that a word is."""
     return natural_up_to(word, MAX_CHANNEL_ID, f"channel ID, 0 to {MAX_CHANNEL_ID}")
+
+
+def channel_of(word: str) -> Union[int, str]:
+    """The channel ID that a word is, or else the name or the interface."""
+    return channel_id(word) if word.isdigit() else word
+
+
+def no_channel(asked: Union[int, str], known: Iterable[tuple[int, str]]) -> str:
+    """What is said of a channel that isn't there, with those that are."""
+    return f"no channel {asked}: {', '.join(f'{channel} {name}'.strip() for channel, name in sorted(set(known)))}"
 
 
 def natural(word: str) -> int:

@@ -15,7 +15,7 @@ from bpfrec.formats.names import facts_path
 from bpfrec.formats.packet import Fault
 from bpfrec_tools.chapter11.runs import missing_among
 from bpfrec_tools.cli import printing
-from bpfrec_tools.cli.arguments import channel_id, name_of
+from bpfrec_tools.cli.arguments import name_of, no_channel
 from bpfrec_tools.cli.progress import Progress
 from bpfrec_tools.cli.streams import (
     STREAM,
@@ -32,15 +32,12 @@ from bpfrec_tools.cli.streams import (
 from bpfrec_tools.export.merging import Capture, Interface, Sliced, interfaces_of
 from bpfrec_tools.export.times import dated, ranges_of
 
+# Why a name names no channel.
+NO_NAMES = "no facts beside it, so --channel takes numbers, as 1"
 # After so many frames it is looked whether a line of progress is due.
 FRAMES_A_LOOK = 256
 # How many bytes are written at once.
 BUFFER_LEN = 1 << 20
-
-
-def channel_of(word: str) -> Union[int, str]:
-    """The channel ID that a word is, or the interface."""
-    return channel_id(word) if word.isdigit() else word
 
 
 def err(line: str) -> None:
@@ -106,8 +103,9 @@ def judge_asked(recordings: list[Sliced], asked: list[Union[int, str]]) -> None:
         if any(it.channels_of(channel) for it, _ in recordings):
             continue
         if isinstance(channel, str) and not recordings[0][0].facts:
-            raise Refused(f"{paths}: no facts beside it, so --channel takes numbers, as 1")
-        raise Refused(f"{paths}: no channel {channel}")
+            raise Refused(f"{paths}: {NO_NAMES}")
+        known = ((found, it.name_of(found) or "") for it, _ in recordings for found in it.index.channels)
+        raise Refused(f"{paths}: {no_channel(channel, known)}")
 
 
 def judge_output(path: str, inputs: Iterable[str], is_forced: bool) -> None:

@@ -9,7 +9,7 @@ from typing import Callable, NamedTuple, Optional
 from bpfrec.formats.names import all_of
 from bpfrec_tools.chapter11 import command as chapter11
 from bpfrec_tools.chapter11.options import add_setup_options
-from bpfrec_tools.cli.arguments import Parser, name_of
+from bpfrec_tools.cli.arguments import Parser, channel_of, name_of
 from bpfrec_tools.cli.streams import STREAM
 from bpfrec_tools.export import captures as pcapng
 from bpfrec_tools.export.times import time_of
@@ -121,7 +121,7 @@ def add_slice(options: argparse._ArgumentGroup) -> None:
     options.add_argument("--from", dest="since", metavar="TIME", type=time_of, help="frames from this time on")
     options.add_argument("--to", dest="until", metavar="TIME", type=time_of, help="frames before this time")
     named = "this channel, by its ID, its name or its interface, also as 'eth0 of tap2'; several times"
-    options.add_argument("--channel", metavar="N", type=pcapng.channel_of, action="append", help=named)
+    options.add_argument("--channel", metavar="N", type=channel_of, action="append", help=named)
 
 
 def kind_of(given: argparse.Namespace) -> Optional[str]:

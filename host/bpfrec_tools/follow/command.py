@@ -9,7 +9,7 @@ import time
 from typing import Optional
 
 from bpfrec_tools.cli import printing
-from bpfrec_tools.cli.arguments import Parser, channel_id, name_of
+from bpfrec_tools.cli.arguments import Parser, channel_of, name_of
 from bpfrec_tools.cli.streams import STREAM, Refused, created, refuse_inputs
 from bpfrec_tools.follow.growing import PAUSE, first_of, next_of
 from bpfrec_tools.follow.view import Recording, View
@@ -42,7 +42,8 @@ BUFFER_LEN = 1 << 20
 def parser() -> Parser:
     """The arguments of bpfrec follow."""
     made = Parser(prog=name_of("follow"), description=ABOUT, epilog=MORE)
-    made.add_argument("--channel", metavar="N", type=channel_id, action="append", help="this channel; several times")
+    named = "this channel, by its ID, its name or its interface; several times"
+    made.add_argument("--channel", metavar="N", type=channel_of, action="append", help=named)
     made.add_argument("--now", action="store_true", help="leaves out the frames that are in the recording already")
     made.add_argument("recording", metavar="RECORDING")
     return made
@@ -63,6 +64,7 @@ def follow(path: str, begins_now: bool, view: View) -> bool:
             if begins_now:
                 recording.hide()
             recording.wait_for_facts()
+            recording.judge_asked()
             next_path, begins_now = follow_one(recording), False
         finally:
             recording.close()

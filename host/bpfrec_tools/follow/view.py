@@ -2,7 +2,7 @@
 
 from __future__ import annotations
 
-from typing import BinaryIO, Iterator, Optional
+from typing import BinaryIO, Iterator, Optional, Union
 
 from bpfrec.formats import pcapng_blocks
 from bpfrec.formats.body import LENGTH_BITS, MARKS, BadBody, Frames, chosen
@@ -13,7 +13,10 @@ from bpfrec.formats.marks import Mark
 from bpfrec.formats.names import facts_path
 from bpfrec.formats.packet import body_of, data_of
 from bpfrec.formats.records import End, Program
+from bpfrec_tools.cli.arguments import no_channel
 from bpfrec_tools.cli.program import Texts
+from bpfrec_tools.cli.streams import Refused
+from bpfrec_tools.export.captures import NO_NAMES
 from bpfrec_tools.export.merging import program_text
 from bpfrec_tools.follow.growing import Growing, Report
 
@@ -35,7 +38,7 @@ class Interface:
 class View:
     """The capture that a verb writes, over all recordings of a run."""
 
-    def __init__(self, verb: str, out: BinaryIO, asked: list[int]) -> None:
+    def __init__(self, verb: str, out: BinaryIO, asked: list[Union[int, str]]) -> None:
         self.verb, self.out, self.asked = verb, out, asked
         self.interfaces: dict[int, Interface] = {}
         self.texts = Texts()
@@ -47,14 +50,8 @@ class View:
         # Its reader begins with that, however long the first frame takes.
         out.flush()
 
-    def shows(self, channel: int) -> bool:
-        """Whether a channel was asked for."""
-        return not self.asked or channel in self.asked
-
     def program(self, program: Program, name: str) -> None:
         """A filter's program came into force."""
-        if not self.shows(program.channel):
-            return
         interface = self.interface(program.channel, name, program)
         if interface.is_new(program):
             interface.waiting.append(program)
@@ -120,6 +117,18 @@ class Recording(Growing):
         self.view.ending.append(self)
         self.view.look_back()
 
+    def shows(self, channel: int) -> bool:
+        """Whether a channel was asked for."""
+        asked, known = self.view.asked, self.known
+        return not asked or any(known.is_called(channel, it) if known else channel == it for it in asked)
+
+    def judge_asked(self) -> None:
+        """Refuses a name that no channel has."""
+        names = self.known.shown_names() if self.known else {}
+        for asked in (it for it in self.view.asked if isinstance(it, str)):
+            if not self.known or not any(self.known.is_called(it, asked) for it in names):
+                raise Refused(f"{self.path}: {no_channel(asked, names.items()) if self.known else NO_NAMES}")
+
     def hide(self) -> None:
         """Leaves out the frames and marks that are there already."""
         self.hidden_to = self.file.size_now()
@@ -147,7 +156,8 @@ class Recording(Growing):
         record = self.follower.record(front)
         if isinstance(record, Program):
             self.named.add(record.channel)
-            self.view.program(record, self.name(record.channel))
+            if self.shows(record.channel):
+                self.view.program(record, self.name(record.channel))
         elif isinstance(record, End):
             self.named.add(record.channel)
             self.ended.add(record.channel)
@@ -156,7 +166,7 @@ class Recording(Growing):
         """Shows a packet of frames."""
         header = front.header
         self.named.add(header.channel)
-        if front.at < self.hidden_to or not self.view.shows(header.channel):
+        if front.at < self.hidden_to or not self.shows(header.channel):
             return
         packet = self.file.read_at(front.at, header.packet_len)
         what, fault = body_of(header, packet)

@@ -12,7 +12,7 @@ from bpfrec_tools.chapter11.options import add_setup_options, setup_arguments
 from bpfrec_tools.cli.arguments import Parser, name_of, nearest
 from bpfrec_tools.cli.quantities import IN_PARTS, MAX_SECONDS, number, parts, seconds, size
 from bpfrec_tools.live.capture_options import add_capture_options
-from bpfrec_tools.live.flight import Flight, faults_of, flight_at, operands_with, words_of
+from bpfrec_tools.live.flight import Flight, by_ids, faults_of, flight_at, operands_with, words_of
 from bpfrec_tools.live.help import ABOUT, MORE
 from bpfrec_tools.live.kept.names import Refusal
 from bpfrec_tools.live.model import are_rotating
@@ -212,7 +212,8 @@ def given_by(arguments: list[str]) -> Given:
     end = arguments.index("--") if "--" in arguments else len(arguments)
     options = parser().parse_intermixed_args(arguments[:end])
     operands = [*options.operands, *arguments[end + 1 :]]
-    return Given(arguments[:end], options, operands, flight_at(operands[0]) if operands else None)
+    flight = flight_at(operands[0]) if operands else None
+    return Given(arguments[:end], options, by_ids(flight, operands) if flight else operands, flight)
 
 
 def read(arguments: list[str]) -> Arguments:

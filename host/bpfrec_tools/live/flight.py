@@ -4,11 +4,13 @@ interfaces."""
 from __future__ import annotations
 
 import os
+import re
 from typing import Any, Iterator, NamedTuple, Optional
 
 from bpfrec.formats.settings import Channel, NoReader, NoToml, Settings, settings_of, type_of
-from bpfrec_tools.cli.arguments import Parser, nearest
-from bpfrec_tools.live.operands import is_route
+from bpfrec_tools.cli.arguments import Parser, nearest, no_channel
+from bpfrec_tools.live.kept.names import Refusal
+from bpfrec_tools.live.operands import is_channel_id, is_route
 
 RUN, OUT = "run", "out"
 # What a channel has beside what record takes.
@@ -175,6 +177,17 @@ def option_words(key: str, value: Any) -> list[str]:
     """An option with its value, once for each value of a list; a switch where it is true."""
     values = value if isinstance(value, list) else [value]
     return [option_of(key) if it is True else f"{option_of(key)}={it}" for it in values if it is not False]
+
+
+def by_ids(flight: Flight, operands: list[str]) -> list[str]:
+    """The operands with the IDs of channels in the places of their names, as eth0=1 for eth0=bus A."""
+    ids = {name: channel for channel, name in flight.names().items()}
+    parts = [re.fullmatch(r"([^=]+=)([^:]*)(.*)", it, re.DOTALL) for it in operands]
+    for found in filter(None, parts[2:]):
+        if ids and found[2] not in ids and not is_channel_id(found[2]):
+            known = ((it.id() or 0, it.path("name") or "") for it in flight.settings.channels)
+            raise Refusal(2, f"bpfrec live: {found[0]}: {no_channel(found[2], known)}")
+    return [f"{found[1]}{ids.get(found[2], found[2])}{found[3]}" if found else it for it, found in zip(operands, parts)]
 
 
 def operands_with(flight: Flight, operands: list[str]) -> list[str]:
