@@ -110,6 +110,8 @@ def test_a_fault_in_what_takes_a_line_is_said_and_ends_nothing(lines: Lines) -> 
 REASONS = {
     "sett 2 arp": "no line sett, and help has all: did you mean set?",
     "xyzzy": "no line xyzzy, and help has all",
+    "next x": "next stands alone",
+    " stop it now": "stop stands alone",
     "set 2": "it needs a channel and a filter, as set 7 udp port 5004",
     "set": "it needs a channel and a filter, as set 7 udp port 5004",
     "set 9 arp": "no channel 9: 1, 2",

@@ -149,6 +149,24 @@ def test_why_a_line_is_refused(folder: Folder, line: str, why: str | None) -> No
     judge(line, changes.why_refused(line.encode()) == why, changes.why_refused(line.encode()))
 
 
+def test_what_the_recorder_refuses_of_a_file_is_said(folder: Folder) -> None:
+    """Behind its answer; of a filter in words it says all itself."""
+    (folder.top / "bad.txt").write_text("2,21 9 0 1,6 0 0 1,")
+    changes = Changes(folder, True, lambda _, listing: MadeFilter(listing))
+    top = folder.top
+    for text, word, why in [
+        (f"{top}/no", "File", f": {top}/no: no such file"),
+        ("/", "File", ": /: it is a directory"),
+        (f"{top}/bad.txt", "File", f": {top}/bad.txt is no listing: bpfrec asm makes one"),
+        (f"{top}/bad.txt", "Listing", f": {top}/bad.txt is no listing: bpfrec asm makes one"),
+        (f"{top}/bad.txt", "Program", f": bpfrec verify {top}/bad.txt says why"),
+        (f"{top}/bad.txt", "VersionsFull", ""),
+        ("arp", "Program", ""),
+    ]:
+        found = changes.held(f"set 1 {text}".encode()).change.why_refused(f"refused 1 {word}")
+        judge(f"{text}: {word}", found == why, found)
+
+
 def test_an_empty_filter_in_quotes_is_that_of_all_frames(folder: Folder) -> None:
     held = Changes(folder, True, lambda _, listing: MadeFilter(listing)).held(b'set 1 ""')
     judge("it is made of no words", held.made and (held.change.words, held.change.name) == ("", ALL), held.change)

@@ -177,7 +177,7 @@ def test_lines_for_the_journal_have_their_priorities(work: Path, quiet: list[str
     for line in (
         r"<6>capture: origin \d+\.\d{9}",
         r"<6>installed 1 1 \d+",
-        r"<4>refused 1 File",
+        r"<4>refused 1 File: .*/missing: no such file",
         r"<6>bpfrec live: clock: synchronised, off by at most 0\.000500 s",
         r"<3>bpfrec live: clock: not synchronised: --require-clock: the clock is not synchronised",
         r"<6>capture: rx0 frames 50 .*",

@@ -7,10 +7,12 @@ import re
 from pathlib import Path
 from typing import Callable, NamedTuple, Optional
 
+from bpfrec.formats.listing import no_listing
 from bpfrec_tools.cli.arguments import nearest
 from bpfrec_tools.live.control.line_buffer import READ_LEN, LineBuffer
 from bpfrec_tools.live.control.made_filters import MadeFilter
 from bpfrec_tools.live.control.words import LINES, Asker, answer, word_of
+from bpfrec_tools.live.kept.names import unreadable
 from bpfrec_tools.live.kept.noted import note_filter
 from bpfrec_tools.live.parts.expressions import is_in_words, name_of
 from bpfrec_tools.live.parts.folder import Folder, copy_listing
@@ -84,13 +86,21 @@ def may_bring_lines() -> bool:
 
 class Change(NamedTuple):
     """A line that the recorder has and hasn't answered: the copy of the listing that it names, its channel, the filter's
-    name, who asked, and the filter's words, where it has some."""
+    name, who asked, and the filter's words, where it has some, or else its file."""
 
     channel: int
     copy: Optional[Path]
     name: str = ""
     asker: Asker = None
     words: str = ""
+    path: str = ""
+
+    def why_refused(self, line: str) -> str:
+        """What is wrong with its file, behind the recorder's answer; nothing where that isn't about a file."""
+        kind = line.rpartition(" ")[2] if self.path else ""
+        if kind == "Program":
+            return f": bpfrec verify {self.path} says why"
+        return f": {unreadable(self.path) or no_listing(self.path)}" if kind in ("File", "Listing") else ""
 
 
 class Pipe:
@@ -183,6 +193,8 @@ class Changes:
         words, found = os.fsdecode(line).split(None, 2), NAMED.fullmatch(line)
         if not words or word_of(line):
             return None
+        if words[0] in LINES and words[0] != "set":
+            return f"{words[0]} stands alone"
         if words[0] != "set":
             return f"no line {words[0]}, and help has all{nearest(words[0], LINES)}"
         known = [str(it.table.get("id")) for it in self.folder.settings.channels]
@@ -203,8 +215,8 @@ class Changes:
         if is_in_words(text):
             return Held(line, Change(channel, copy, name=name, asker=asker, words=text), self.make(text, copy))
         if not self.keeps or not copy_listing(os.fsdecode(found[2]), copy):
-            return Held(line, Change(channel, None, name=name, asker=asker))
-        return Held(set_line(channel, copy), Change(channel, copy, name=name, asker=asker))
+            return Held(line, Change(channel, None, name=name, asker=asker, path=text))
+        return Held(set_line(channel, copy), Change(channel, copy, name=name, asker=asker, path=text))
 
     def next_copy(self) -> Path:
         """The file of the next listing."""

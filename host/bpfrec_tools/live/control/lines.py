@@ -235,6 +235,7 @@ class ControlLines(Part):
         change = recorder.lines.unanswered.pop(0)
         self.changes.answered(change, found.is_installed(), recorder.made)
         changed(change, found)
-        told = f"{line} in {recorder.about.out}" if found.is_installed() and self.given.is_rotating() else line
+        where = f" in {recorder.about.out}" if found.is_installed() and self.given.is_rotating() else ""
+        told = f"{line}{where}{change.why_refused(line)}"
         answer(change.asker, told, found.is_installed())
         return told
