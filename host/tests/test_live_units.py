@@ -33,6 +33,10 @@ def refused(call: Callable[[], object]) -> tuple[int, str]:
     return caught.value.status, caught.value.line
 
 
+AHEAD = "a channel stands ahead of an expression"
+ONE = "an expression is one argument, with its interface"
+
+
 def test_interfaces_and_their_filters_are_taken_apart(work: Path) -> None:
     (work / "settings").write_text("limit = 65536\n")
     (work / "old.ch11").write_bytes(b"\x25\xeb\0\0")
@@ -45,6 +49,7 @@ def test_interfaces_and_their_filters_are_taken_apart(work: Path) -> None:
         ([str(work / "empty.ch11"), "lo"], (None, str(work / "empty.ch11"), [("lo", 1, None)])),
         (["new.ch11", "eht0"], (None, "new.ch11", [("eht0", 1, None)])),
         (["s.toml", "-x"], ("s.toml", "./-x", [])),
+        (["out", "eth0:label=2"], (None, "out", [("eth0:label", 2, None)])),
         (["flight=3", "lo"], (None, "flight=3", [("lo", 1, None)])),
         (
             ["new.ch11", "lo", "e=3:tcp[0] = 5", "f=1"],
@@ -61,6 +66,12 @@ def test_interfaces_and_their_filters_are_taken_apart(work: Path) -> None:
         (["s.toml", "out", "eth0=0"], "bpfrec live: eth0=0: a channel ID is 1 to 65535"),
         (["s.toml", "out", "=1"], "bpfrec live: no INTERFACE=CHANNEL: =1"),
         (["s.toml", "out", "a=1", "b=1"], "bpfrec live: channel 1 has two interfaces"),
+        (["o", "eth0:udp port 53"], f"bpfrec live: eth0:udp port 53: {AHEAD}: eth0=1:'udp port 53'"),
+        (["o", "eth0:arp"], f"bpfrec live: eth0:arp: {AHEAD}: eth0=1:'arp'"),
+        (["s.toml", "o", "eth0=udp port 53"], f"bpfrec live: eth0=udp port 53: {AHEAD}: eth0=1:'udp port 53'"),
+        (["o", "lo", "udp", "port", "53"], f"bpfrec live: udp: {ONE}: lo=1:'udp port 53'"),
+        (["s.toml", "o", "lo=2:udp", "port", "53"], f"bpfrec live: port: {ONE}: lo=2:'udp port 53'"),
+        (["o", "lo", "lo"], "bpfrec live: lo is given twice"),
         (["s.toml", "lo"], "bpfrec live: OUT is missing: it stands between s.toml and lo"),
     ]:
         judge_quietly(f"{given}", refused(functools.partial(operands.operands_of, given)) == (2, line))
@@ -72,6 +83,9 @@ def test_help_says_which_keys_a_channel_of_a_flight_must_have() -> None:
     must = [key for key, numbers in CHANNEL_KEYS.items() if numbers is None or numbers.default is None]
     found = re.search(r"A \[\[channel\]\] must have ([^,]*),", MORE)
     judge("each", found and re.findall("`(.*?)`", found[1]) == [it for it in must if it != "feed"], (must, found))
+
+
+FIRST = "OUT stands first, then interfaces, as flight.ch11 eth0"
 
 
 def test_options_of_the_capture_keep_their_order() -> None:
@@ -88,6 +102,7 @@ def test_options_of_the_capture_keep_their_order() -> None:
         (["--direction", "sideways", "o", "lo"], "bpfrec live: --direction needs one of both, in, out"),
         (["--clock=hst", "o", "lo"], "bpfrec live: --clock needs one of host, adapter"),
         (["--nonsense", "x", "y"], "bpfrec live: no such option: --nonsense"),
+        (["-i", "eth0", "-w", "o"], f"bpfrec live: no such option: -i: {FIRST}"),
         (["-x", "a", "b"], "bpfrec live: no such option: -x"),
         (["--eve", "3"], "bpfrec live: no such option: --eve: did you mean --every?"),
     ]:

@@ -2,6 +2,7 @@
 
 import os
 import socket
+import subprocess
 from collections.abc import Iterator
 from pathlib import Path
 
@@ -33,6 +34,13 @@ def test_where_there_is_none_the_name_is_said(bound: Path) -> None:
         judge(name, socket_of(name) == name)
         done = outcome(TOOLS / "tell", name, "status", cwd=bound)
         judge("nobody listens", done.returncode == 3 and f"bpfrec tell: {name}: nobody listens" in done.stderr, done)
+
+
+def test_a_line_may_come_by_standard_input(bound: Path) -> None:
+    done = outcome(TOOLS / "tell", cwd=bound)
+    judge("RUN is missing", done.returncode == 2 and done.stderr.endswith("are required: RUN\n"), done)
+    done = outcome(TOOLS / "tell", "flight", stdin=subprocess.DEVNULL, cwd=bound)
+    judge("LINE isn't", done.returncode == 3 and "nobody listens" in done.stderr, done)
 
 
 # What [run] says, and the socket that is looked for beside the settings.

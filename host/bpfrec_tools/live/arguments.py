@@ -29,6 +29,9 @@ LEAST_SYNC = 0.01
 # A span of a microsecond at least, and at most what a counter holds, in whole seconds.
 LEAST_SPAN, MOST_SPAN = 1e-6, MAX_COUNTER // TICKS_A_SECOND
 
+# By these tcpdump names an interface and a file.
+TCPDUMP = ("-i", "-w")
+
 
 class Arguments(NamedTuple):
     """What live is told to do."""
@@ -107,6 +110,8 @@ def fault_of(message: str, options: list[str]) -> str:
     if found:
         return f"{found[1]} {'needs a value' if found[2].startswith('expected') else found[2]}"
     found = re.fullmatch(r"unrecognized arguments: (\S+).*", message, re.DOTALL)
+    if found and found[1] in TCPDUMP:
+        return f"no such option: {found[1]}: OUT stands first, then interfaces, as flight.ch11 eth0"
     return f"no such option: {found[1]}{nearest(found[1], options)}" if found else message
 
 

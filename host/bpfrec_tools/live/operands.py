@@ -16,6 +16,8 @@ from bpfrec_tools.live.kept.names import refused
 ROUTE = re.compile(
     r"(?P<interface>[^=]+\.(?:pcap|pcapng|cap)|[^=/\s]+)(?:=(?P<channel>[^:]*)(?::(?P<expression>.*))?)?", re.DOTALL
 )
+# An expression in the place of a channel.
+BARE = re.compile(r"([^=:/\s]+)(?::(?=.*[a-z])(?!.*=[0-9]+(?::|$))|=(?=[^:]*\s))(.+)", re.DOTALL)
 CAPTURES = (".pcap", ".pcapng", ".cap")
 CHANNEL_ID = re.compile(r"[1-9][0-9]{0,4}")
 
@@ -45,6 +47,7 @@ def operands_of(operands: list[str]) -> Operands:
     help_text = f"{name_of('live')} --help has its arguments"
     if not operands or (len(operands) == 1 and names_settings(operands)):
         raise refused(2, f"it takes SETTINGS and OUT: {help_text}")
+    refuse_expressions(operands)
     if names_settings(operands):
         settings, out, *rest = operands
         refuse_interface(settings, 3)
@@ -55,7 +58,23 @@ def operands_of(operands: list[str]) -> Operands:
     refuse_interface(out, 2)
     if not rest:
         raise refused(2, f"an INTERFACE is missing: it stands behind {out}")
+    twice = next((it for it in rest if "=" not in it and rest.count(it) > 1), None)
+    if twice:
+        raise refused(2, f"{twice} is given twice")
     return Operands(None, dashed(out), routes_of(numbered(rest)))
+
+
+def refuse_expressions(operands: list[str]) -> None:
+    """Refuses an expression that has no channel ahead of it, or isn't one argument."""
+    rest = operands[2 if is_settings(operands[0]) else 1 :]
+    for found in filter(None, (BARE.fullmatch(it) for it in rest if not os.path.lexists(it))):
+        raise refused(2, f"{found[0]}: a channel stands ahead of an expression: {found[1]}=1:'{found[2]}'")
+    others = [it for it in rest if not is_route(it)]
+    route = ROUTE.fullmatch(rest[-len(others) - 1]) if 1 < len(others) < len(rest) else None
+    if route and rest[-len(others) :] == others:
+        words = " ".join(filter(None, [route["expression"], *others]))
+        form = f"{route['interface']}={route['channel'] or 1}:'{words}'"
+        raise refused(2, f"{others[0]}: an expression is one argument, with its interface: {form}")
 
 
 def refuse_interface(operand: str, status: int) -> None:
@@ -75,11 +94,16 @@ def dashed(out: str) -> str:
 def names_settings(operands: list[str]) -> bool:
     """Whether the first operand is SETTINGS, and not OUT: by its ending, by what it is, or by the operands behind it."""
     first, *rest = operands
-    if first.endswith((".toml", ".ch11", ".ch10")):
-        return first.endswith(".toml")
-    if os.path.isfile(first):
-        return not is_recording(first)
+    if first.endswith((".toml", ".ch11", ".ch10")) or os.path.isfile(first):
+        return is_settings(first)
     return not all(is_route(it) for it in rest)
+
+
+def is_settings(path: str) -> bool:
+    """Whether a path is that of SETTINGS, by its ending or by what it is."""
+    if path.endswith((".toml", ".ch11", ".ch10")):
+        return path.endswith(".toml")
+    return os.path.isfile(path) and not is_recording(path)
 
 
 def is_recording(path: str) -> bool:

@@ -52,7 +52,8 @@ def parser() -> Parser:
     made = Parser(prog=name, usage=f"{name} [--wait SECONDS] RUN [LINE]", description=ABOUT, epilog=MORE)
     made.add_argument("--wait", metavar="SECONDS", type=seconds, help="gives an answer up after this time")
     made.add_argument("run", metavar="RUN", help="the socket of bpfrec live, or what names it")
-    made.add_argument("words", metavar="LINE", nargs=argparse.REMAINDER)
+    # Without one lines come by standard input.
+    made.add_argument("words", metavar="LINE", nargs=argparse.REMAINDER).required = False
     return made
 
 
