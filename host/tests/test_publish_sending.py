@@ -9,13 +9,14 @@ import os
 import select
 import socket
 import time
+from pathlib import Path
 from typing import Any, Optional
 
 import pytest
 from bpfrec_tools.cli.addresses import udp_address
 from bpfrec_tools.publish import sending
 from bpfrec_tools.publish.sending import Route, Sending, opened
-from support import judge, judge_quietly
+from support import LIVE, TOOLS, judge, judge_quietly, outcome
 
 ADDRESS = udp_address("127.0.0.1:50000")
 
@@ -173,3 +174,15 @@ def test_a_group_gets_its_hops_and_its_interface() -> None:
         opened(Route(udp_address("239.1.2.3:50000"), 1, "none0"))
     with opened(Route(ADDRESS, 7)) as made:
         judge("a host's stay the system's", made.getsockopt(socket.IPPROTO_IP, socket.IP_TTL) != 7)
+
+
+def test_an_interface_that_is_not_here_is_refused_at_once(work: Path) -> None:
+    line = "239.1.2.3:9: no such interface: no0"
+    judge("by its name", udp_address("239.1.2.3:9").lacks("no0") == line)
+    judge("by its address", udp_address("[ff02::1%no0]:9").lacks(None) == "[ff02::1%no0]:9: no such interface: no0")
+    judge("one that is here", not udp_address("239.1.2.3:9").lacks("lo") and not udp_address("239.1.2.3:9").lacks(None))
+    done = outcome(TOOLS / "publish", "--interface", "no0", work / "f.ch11", "239.1.2.3:9")
+    judge("by publish", done.returncode == 2 and done.stderr.endswith(f"error: {line}\n"), done)
+    programs = {**os.environ, "BPFREC": "/bin/true", "CAPTURE": "/bin/true"}
+    done = outcome(LIVE, "--publish", "239.1.2.3:9,interface=no0", work / "o.ch11", "lo", env=programs)
+    judge("by live", (done.returncode, done.stderr) == (3, f"bpfrec live: --publish {line}\n"), done)

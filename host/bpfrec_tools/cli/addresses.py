@@ -38,6 +38,11 @@ class UdpAddress(NamedTuple):
         """Whether it is a group."""
         return self.address.is_multicast
 
+    def lacks(self, interface: Optional[str]) -> str:
+        """What is said where this interface, or the one that it is of, isn't here; nothing where it is."""
+        name = interface or self.zone
+        return f"{self}: no such interface: {name}" if name and name not in dict(socket.if_nameindex()).values() else ""
+
     def for_socket(self, interface: Optional[str] = None) -> Any:
         """The address as a socket takes it; OSError where its interface isn't here. One of IPv6 that names no interface
         is of this one."""

@@ -18,6 +18,10 @@ class Target(NamedTuple):
     # What the setup record says beside the facts, as arguments.
     setup: tuple[str, ...] = ()
 
+    def lacks(self) -> str:
+        """What is said where the interface by which the run is published isn't here; nothing where it is."""
+        return self.address.lacks(self.options.get("interface"))
+
     def arguments(self) -> list[str]:
         """These as arguments of bpfrec publish."""
         return [*(f"--{name}={value}" for name, value in self.options.items()), *self.setup]

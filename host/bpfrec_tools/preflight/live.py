@@ -192,9 +192,8 @@ def judge_interface(interface: str, report: Report) -> None:
 
 def judge_target(target: Target, report: Report) -> None:
     """Whether the interface by which the run is published is there."""
-    interface = target.options.get("interface") or target.address.zone
-    if interface and flags_of(interface) is None:
-        report.fault("live", f"--publish {target.address}: no such interface: {interface}")
+    if target.lacks():
+        report.fault("live", f"--publish {target.lacks()}")
 
 
 def flags_of(interface: str) -> Optional[int]:

@@ -214,6 +214,9 @@ def run(arguments: list[str]) -> int:
     given = made.parse_args(arguments)
     if given.interface and not given.address.is_multicast():
         made.error(f"--interface is for a multicast group, which {given.address} is not")
+    # What live begins with --counts may wait for an interface that was there.
+    if given.counts is None and (lack := given.address.lacks(given.interface)):
+        made.error(lack)
     publisher = Publisher(given)
     for number in (signal.SIGINT, signal.SIGTERM):
         signal.signal(number, publisher.end_soon)
