@@ -17,6 +17,8 @@ from bpfrec_tools.cli.moments import first_from, last_to, moment_of, time_of_day
 from bpfrec_tools.cli.streams import Refused
 from bpfrec_tools.export.times import Asked, beginning_of, dated, time_of
 from bpfrec_tools.live.arguments import read
+from bpfrec_tools.receive import command as receive
+from bpfrec_tools.tell import command as tell
 from expected_facts import UNKNOWN_SCALE, facts_of_run
 from support import SECOND, judge, judge_quietly
 
@@ -149,6 +151,19 @@ ODD_DAYS: tuple[object, ...] = (
     "now",
     [],
 )
+
+
+def test_times_have_units() -> None:
+    for word, ticks in {"1min": 60_000, "1h30m": 5_400_000, "100ms": 100, "12.5": 12_500}.items():
+        judge(word, time_of(word) == Time(ticks * 1_000_000, False), time_of(word))
+    for parser, words in (
+        (receive.parser(), ["--for=500ms", "127.0.0.1:9", "o"]),
+        (tell.parser(), ["--wait=0.5", "o"]),
+    ):
+        given = parser.parse_args(words)
+        judge(str(words), 0.5 in vars(given).values(), given)
+    with pytest.raises(argparse.ArgumentTypeError, match="^needs a number of seconds since counter 0"):
+        time_of("1x")
 
 
 def test_an_origin_of_a_capture_file_needs_its_date() -> None:

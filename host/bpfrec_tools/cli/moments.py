@@ -8,8 +8,11 @@ import time
 from typing import Optional
 
 from bpfrec.formats.limits import NANOSECONDS_A_SECOND, NANOSECONDS_A_TICK
+from bpfrec_tools.cli.quantities import MAX_SECONDS, parts
 
 TIME = re.compile(r"([01][0-9]|2[0-3]):([0-5][0-9]):([0-5][0-9])(?:\.([0-9]{1,9}))?")
+# What reads a time that is waited for, as 0.5, 500ms or 10min.
+some_seconds = parts(0.001, MAX_SECONDS, f"from 0.001 to {MAX_SECONDS}, in seconds, or as 500ms or 10m")
 A_DAY = 86_400 * NANOSECONDS_A_SECOND
 
 

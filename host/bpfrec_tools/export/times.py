@@ -12,9 +12,12 @@ from bpfrec.formats.body import Range
 from bpfrec.formats.limits import NANOSECONDS_A_SECOND, NANOSECONDS_A_TICK
 from bpfrec.formats.pcapng_blocks import MOST_UNITS
 from bpfrec_tools.cli.moments import first_from, moment_of, time_of_day
+from bpfrec_tools.cli.quantities import MAX_SECONDS, parts
 from bpfrec_tools.cli.streams import Refused
 
 SECONDS = re.compile(r"([0-9]{1,12})(?:\.([0-9]{1,9}))?")
+# The same with a unit.
+moments = parts(0, MAX_SECONDS, "of seconds since counter 0, as 90, 100ms or 1h30m")
 
 
 class TimeOfDay(NamedTuple):
@@ -36,6 +39,8 @@ def time_of(word: str) -> Union[Time, TimeOfDay]:
     if found:
         rest = int((found[2] or "").ljust(9, "0"))
         return Time(int(found[1]) * NANOSECONDS_A_SECOND + rest, False)
+    if word[:1].isdigit() and word[-1:].islower():
+        return Time(round(moments(word) * NANOSECONDS_A_SECOND), False)
     if not word.endswith("Z"):
         takes = "seconds since counter 0, or UTC with or without its date"
         raise argparse.ArgumentTypeError(f"{word} is no time, as 12.5, 23:36:10 or 2025-12-01T12:00:00.25Z: {takes}")

@@ -17,7 +17,7 @@ from bpfrec.formats.transfer import datagram_in
 from bpfrec_tools.cli import printing
 from bpfrec_tools.cli.addresses import udp_address
 from bpfrec_tools.cli.arguments import Parser, name_of
-from bpfrec_tools.cli.quantities import seconds
+from bpfrec_tools.cli.moments import some_seconds
 from bpfrec_tools.cli.streams import STREAM, Refused, Unreadable
 from bpfrec_tools.receive.assembling import Assembling
 from bpfrec_tools.receive.output import Files
@@ -61,8 +61,8 @@ def parser() -> Parser:
     """The arguments of bpfrec receive."""
     made = Parser(prog=name_of("receive"), description=ABOUT, epilog=MORE)
     made.add_argument("--interface", metavar="NAME", help="the interface on which a group is joined")
-    made.add_argument("--for", metavar="SECONDS", dest="seconds", type=seconds, help="ends after this time")
-    made.add_argument("--idle", metavar="SECONDS", type=seconds, help="ends when nothing has come for this time")
+    made.add_argument("--for", metavar="SECONDS", dest="seconds", type=some_seconds, help="ends after this time")
+    made.add_argument("--idle", metavar="SECONDS", type=some_seconds, help="ends when nothing has come for this time")
     sender = "takes datagrams of this sender alone"
     made.add_argument("--from", metavar="ADDRESS", dest="sender", type=address_of, help=sender)
     made.add_argument("--force", action="store_true", help="overwrites an OUT that exists")

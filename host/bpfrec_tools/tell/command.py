@@ -13,7 +13,7 @@ from typing import BinaryIO, Optional
 from bpfrec.formats.names import split
 from bpfrec_tools.cli import printing
 from bpfrec_tools.cli.arguments import Parser, name_of
-from bpfrec_tools.cli.quantities import seconds
+from bpfrec_tools.cli.moments import some_seconds
 from bpfrec_tools.live.flight import flight_at, run_fault
 from bpfrec_tools.live.kept.names import Refusal
 
@@ -50,7 +50,7 @@ def parser() -> Parser:
     """The arguments of bpfrec tell."""
     name = name_of("tell")
     made = Parser(prog=name, usage=f"{name} [--wait SECONDS] RUN [LINE]", description=ABOUT, epilog=MORE)
-    made.add_argument("--wait", metavar="SECONDS", type=seconds, help="gives an answer up after this time")
+    made.add_argument("--wait", metavar="SECONDS", type=some_seconds, help="gives an answer up after this time")
     made.add_argument("run", metavar="RUN", help="the socket of bpfrec live, or what names it")
     # Without one lines come by standard input.
     made.add_argument("words", metavar="LINE", nargs=argparse.REMAINDER).required = False
@@ -117,7 +117,7 @@ def ask(connection: socket.socket, stream: BinaryIO, line: str) -> bool:
     return is_done
 
 
-def ask_all(path: str, lines: Iterable[str], patience: Optional[int]) -> int:
+def ask_all(path: str, lines: Iterable[str], patience: Optional[float]) -> int:
     """Sends lines, each once the one before is answered: the status."""
     status = DONE
     with socket.socket(socket.AF_UNIX, socket.SOCK_STREAM) as connection:
