@@ -15,6 +15,7 @@ HOST = ROOT / "host"
 OF_TOOLS = {"argparse", "subprocess", "socket", "signal", "select", "threading", "tempfile", "shutil"}
 # How many modules of the library are loaded at most where it is used.
 MOST_MODULES = 25
+SERVED = "import sys; sys.path.insert(0, sys.argv[1]); import bpfrec_tools.{}.command; print(*sys.modules)"
 LOADED = "import sys; sys.path.insert(0, sys.argv[1]); import bpfrec; bpfrec.open; print(*sys.modules)"
 
 
@@ -90,3 +91,10 @@ def test_few_modules_are_loaded_to_read_a_recording() -> None:
     mine = [it for it in loaded if top(it).startswith("bpfrec")]
     judge(f"at most {MOST_MODULES}", len(mine) <= MOST_MODULES, mine)
     judge("and none of what tools need", not OF_TOOLS & {*loaded}, OF_TOOLS & {*loaded})
+
+
+def test_live_imports_a_server_where_the_status_is_served_alone() -> None:
+    for tool in ("live", "preflight"):
+        words = [sys.executable, "-c", SERVED.format(tool), str(HOST)]
+        found = subprocess.run(words, capture_output=True, text=True, check=True).stdout.split()
+        judge(tool, "bpfrec_tools.live.arguments" in found and "http.server" not in found, found)

@@ -29,7 +29,6 @@ from bpfrec_tools.live.parts.adapters import asked
 from bpfrec_tools.live.parts.expressions import gives_filter, listing_in_words, listing_of, words_in
 from bpfrec_tools.live.parts.folder import judge_settings as refuse_settings
 from bpfrec_tools.live.status import BadEndpoint, NoServer, endpoint_in
-from bpfrec_tools.live.status.server import Server
 from bpfrec_tools.live.targets import Target
 from bpfrec_tools.preflight.flights import UNKNOWN, interfaces_of, judge_flight, refusal_of, tell_flight
 from bpfrec_tools.preflight.inputs import judge_settings
@@ -110,6 +109,9 @@ def refuse_endpoint(given: Arguments) -> None:
     """Refuses an address of the status that is none, or that can't be had."""
     if given.status is None:
         return
+    # Here, since few runs have one.
+    from bpfrec_tools.live.status.server import Server
+
     try:
         Server(endpoint_in(given.status, given.status_names)).server_close()
     except (BadEndpoint, NoServer) as why:

@@ -24,9 +24,8 @@ No call waits for a client, a terminal or a pipe. While `Terminal.is_of(stream)`
 """
 
 from bpfrec_tools.live.run.ports import Counts, Setup
-from bpfrec_tools.live.status.endpoint import BadEndpoint, Endpoint, endpoint_in
+from bpfrec_tools.live.status.endpoint import BadEndpoint, Endpoint, NoServer, endpoint_in
 from bpfrec_tools.live.status.observer import Status
-from bpfrec_tools.live.status.server import NoServer
 from bpfrec_tools.live.status.terminal import Terminal
 
 __all__ = ["BadEndpoint", "Counts", "Endpoint", "NoServer", "Setup", "Status", "Terminal", "endpoint_in"]

@@ -23,6 +23,12 @@ class BadEndpoint(Exception):
     status = 2
 
 
+class NoServer(Exception):
+    """The place can't be served at: another has it, or it may not be had."""
+
+    status = 3
+
+
 class Endpoint(NamedTuple):
     """An address and a port, and the names by which it may be asked; port 0 is one that the kernel chooses."""
 

@@ -16,7 +16,6 @@ from bpfrec_tools.live.status.alarms import AlarmChange, AlarmChanges, alarms_of
 from bpfrec_tools.live.status.endpoint import Endpoint
 from bpfrec_tools.live.status.growth import Growth
 from bpfrec_tools.live.status.model import Model
-from bpfrec_tools.live.status.server import Server, Stock
 from bpfrec_tools.live.status.table import report_of
 from bpfrec_tools.live.status.terminal import Terminal
 from bpfrec_tools.live.status.view import ClockView
@@ -47,6 +46,9 @@ class Status(Observer):
         self.changes = AlarmChanges()
         self.alarm_changed: Callable[[AlarmChange], None] = lambda _: None
         # It takes its port at once, so that one that can't be had is refused before anything is recorded.
+        if endpoint:
+            # Here, since few runs have one.
+            from bpfrec_tools.live.status.server import Server
         self.server = Server(endpoint) if endpoint else None
 
     def start(self) -> None:
@@ -181,6 +183,6 @@ class Status(Observer):
         for change in self.changes.take(alarms):
             self.alarm_changed(change)
         if self.server:
-            self.server.answers.stock = Stock(view, alarms)
+            self.server.answers.take(view, alarms)
         if self.terminal and not self.model.is_ended:
             self.terminal.draw(view, alarms)

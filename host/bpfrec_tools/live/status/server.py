@@ -24,7 +24,7 @@ from typing import Any, NamedTuple, Optional
 
 from bpfrec_tools.live.status import as_json, metrics
 from bpfrec_tools.live.status.alarms import Alarm
-from bpfrec_tools.live.status.endpoint import Endpoint
+from bpfrec_tools.live.status.endpoint import Endpoint, NoServer
 from bpfrec_tools.live.status.view import View
 
 
@@ -72,12 +72,6 @@ HEADERS = (
 )
 
 
-class NoServer(Exception):
-    """The place can't be served at: another has it, or it may not be had."""
-
-    status = 3
-
-
 class Stock(NamedTuple):
     """What is told until the next one."""
 
@@ -101,6 +95,10 @@ class Answers:
         self.stock: Optional[Stock] = None
         self.made: dict[str, tuple[Stock, str]] = {}
         self.lock = threading.Lock()
+
+    def take(self, view: View, alarms: tuple[Alarm, ...]) -> None:
+        """Has these told from now on."""
+        self.stock = Stock(view, alarms)
 
     def text_of(self, path: str, stock: Stock) -> str:
         """The text of this path, without its age."""
