@@ -14,7 +14,7 @@ from bpfrec_tools.cli.quantities import IN_PARTS, MAX_SECONDS, number, parts, se
 from bpfrec_tools.live.capture_options import add_capture_options
 from bpfrec_tools.live.flight import Flight, by_ids, faults_of, flight_at, operands_with, words_of
 from bpfrec_tools.live.help import ABOUT, MORE
-from bpfrec_tools.live.kept.names import Refusal
+from bpfrec_tools.live.kept.names import refused
 from bpfrec_tools.live.model import are_rotating
 from bpfrec_tools.live.operands import Route, operands_of
 from bpfrec_tools.live.targets import Target, target_of
@@ -98,7 +98,7 @@ class LiveParser(Parser):
     def error(self, message: str) -> NoReturn:
         """Refuses arguments that are wrong."""
         options = [it for action in self._actions for it in action.option_strings]
-        raise Refusal(2, f"bpfrec live: {fault_of(message, options)}")
+        raise refused(2, f"{fault_of(message, options)}")
 
 
 def fault_of(message: str, options: list[str]) -> str:
@@ -225,7 +225,7 @@ def read(arguments: list[str]) -> Arguments:
     """The arguments of a command line, with those of the flight that it names; what is wrong is a Refusal."""
     line = given_by(arguments)
     for fault in faults_of(line.flight, parser(), line.words) if line.flight else ():
-        raise Refusal(2, f"bpfrec live: {line.operands[0]}: {fault.what}")
+        raise refused(2, f"{line.operands[0]}: {fault.what}")
     return arguments_of(line)
 
 
@@ -244,5 +244,5 @@ def arguments_of(line: Given) -> Arguments:
         named = names.get(route.interface, route.channel)
         if named != route.channel:
             what = f"{route.interface} is the interface of channel {route.channel}"
-            raise Refusal(2, f"bpfrec live: {operands[0]}: channel {named}: name: {what}")
+            raise refused(2, f"{operands[0]}: channel {named}: name: {what}")
     return Arguments(**found._asdict(), **asked, setup=setup)

@@ -121,7 +121,7 @@ def look_ahead(given: Arguments) -> None:
     ahead.refuse_clock(given)
     ahead.refuse_signing(given)
     for lack in filter(None, (it.lacks() for it in given.targets)):
-        raise Refusal(3, f"bpfrec live: --publish {lack}")
+        raise refused(3, f"--publish {lack}")
     if not given.is_rotating():
         beside = (whole_path(given.out),) if given.makes_whole_files else ()
         Files(given.mode, given.is_forced).refuse_overwriting(given.out, *beside)

@@ -9,7 +9,7 @@ from typing import Any, Iterator, NamedTuple, Optional
 
 from bpfrec.formats.settings import Channel, NoReader, NoToml, Settings, settings_of, type_of
 from bpfrec_tools.cli.arguments import Parser, nearest, no_channel
-from bpfrec_tools.live.kept.names import Refusal
+from bpfrec_tools.live.kept.names import refused
 from bpfrec_tools.live.operands import is_channel_id, is_route
 
 RUN, OUT = "run", "out"
@@ -186,7 +186,7 @@ def by_ids(flight: Flight, operands: list[str]) -> list[str]:
     for found in filter(None, parts[2:]):
         if ids and found[2] not in ids and not is_channel_id(found[2]):
             known = ((it.id() or 0, it.path("name") or "") for it in flight.settings.channels)
-            raise Refusal(2, f"bpfrec live: {found[0]}: {no_channel(found[2], known)}")
+            raise refused(2, f"{found[0]}: {no_channel(found[2], known)}")
     return [f"{found[1]}{ids.get(found[2], found[2])}{found[3]}" if found else it for it, found in zip(operands, parts)]
 
 

@@ -24,7 +24,7 @@ from bpfrec_tools.live import ahead
 from bpfrec_tools.live.arguments import Arguments, arguments_of, given_by
 from bpfrec_tools.live.flight import Flight, option_of, without_flight
 from bpfrec_tools.live.kept.clock_watch import by_others, by_the_kernel
-from bpfrec_tools.live.kept.names import Files, Refusal, is_special, refuse_long
+from bpfrec_tools.live.kept.names import Files, Refusal, is_special, refuse_long, refused
 from bpfrec_tools.live.parts.adapters import asked
 from bpfrec_tools.live.parts.expressions import gives_filter, listing_in_words, listing_of, words_in
 from bpfrec_tools.live.parts.folder import judge_settings as refuse_settings
@@ -115,7 +115,7 @@ def refuse_endpoint(given: Arguments) -> None:
     try:
         Server(endpoint_in(given.status, given.status_names)).server_close()
     except (BadEndpoint, NoServer) as why:
-        raise Refusal(why.status, f"bpfrec live: {why}") from None
+        raise refused(why.status, f"{why}") from None
 
 
 def with_pipes(settings: Settings, piped: Container[object]) -> None:

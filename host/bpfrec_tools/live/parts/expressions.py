@@ -14,7 +14,7 @@ from bpfrec.formats.listing import listing_in, no_listing
 from bpfrec.formats.settings import Settings
 from bpfrec_tools.cli import program
 from bpfrec_tools.live.arguments import Arguments
-from bpfrec_tools.live.kept.names import Refusal, is_special, unreadable
+from bpfrec_tools.live.kept.names import is_special, refused, unreadable
 from bpfrec_tools.live.operands import Route
 
 ALL_FRAMES = "1,6 0 0 4294967295,"
@@ -74,10 +74,10 @@ def listing_in_words(place: str, text: str) -> str:
     """The listing of a filter in words, which stands at this place; a Refusal where it has none."""
     arguments = arguments_for(text, program.find())
     if arguments is None:
-        raise Refusal(3, f"bpfrec live: {NO_TCPDUMP}")
+        raise refused(3, f"{NO_TCPDUMP}")
     done = subprocess.run(arguments, stdin=subprocess.DEVNULL, capture_output=True, check=False)
     if done.returncode != 0:
-        raise Refusal(2, f"bpfrec live: {place}: {fault_of(arguments, done.returncode, done.stderr)}")
+        raise refused(2, f"{place}: {fault_of(arguments, done.returncode, done.stderr)}")
     return done.stdout.decode()
 
 
@@ -135,7 +135,7 @@ def judge_filter(name: str, path: str) -> None:
     """Refuses a file that is no valid listing; one that is a pipe is the recorder's to open."""
     why = unreadable(path)
     if why:
-        raise Refusal(3, f"bpfrec live: {name}: {why}")
+        raise refused(3, f"{name}: {why}")
     if is_special(path):
         return
     # A path that begins with - would be an option or standard input.
@@ -144,4 +144,4 @@ def judge_filter(name: str, path: str) -> None:
     if done.returncode > 0:
         answer = program.answer_of(done)
         what = no_listing(path) if is_no_listing(answer) else f"{answer}: filter {path}"
-        raise Refusal(done.returncode, f"bpfrec live: {name}: {what}")
+        raise refused(done.returncode, f"{name}: {what}")
