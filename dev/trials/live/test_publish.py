@@ -338,16 +338,17 @@ def test_what_cannot_be_published_is_refused(work: Path) -> None:
 
 def test_live_refuses_what_it_cannot_publish(work: Path) -> None:
     settings = settings_of_one(work)
-    programs: list[list[object]] = [[LIVE], [PREFLIGHT, "--live"]]
     for word, what in [
         ("ground:5", "--publish ground:5: needs ADDRESS:PORT"),
         ("127.0.0.1:5,interface=lo", "interface= is for a multicast group"),
         ("239.1.2.3:5,ttl=x", "--publish x is no number"),
         ("239.1.2.3:5,speed=5", "speed=5: needs ttl=N, interface=NAME or datagram=BYTES, each once"),
     ]:
-        for program in programs:
-            done = outcome(*program, "--publish", word, settings, work / "x.ch11", "rx0=1")
-            judge(what, done.returncode == 2 and what in done.stderr, done)
+        words = ("--publish", word, settings, work / "x.ch11", "rx0=1")
+        done = outcome(LIVE, *words)
+        judge(what, done.returncode == 2 and what in done.stderr, done)
+        done = outcome(PREFLIGHT, "--live", *words)
+        judge("a fault for preflight", done.returncode == 1 and what in done.stdout, done)
     os.mkfifo(work / "pipe")
     done = outcome(LIVE, "--publish", "127.0.0.1:5", settings, work / "pipe", "rx0=1")
     judge("a pipe", (done.returncode, done.stderr) == (2, "bpfrec live: --publish needs an OUT that is a file\n"), done)
