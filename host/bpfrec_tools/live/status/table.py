@@ -17,7 +17,7 @@ PLAIN = "\x1b[0m"
 # A bar of the last seconds, from nothing to the most.
 LEVELS = " ▁▂▃▄▅▆▇█"
 # The least that is drawn, and the widths of names that may be cut.
-LEAST_WIDTH, LEAST_HEIGHT, NAME_WIDTH = 20, 4, 13
+LEAST_WIDTH, NAME_WIDTH = 20, 13
 BAR_SECONDS = 20
 # The columns of a filter, where there are so many, and the fewest in which one is shown.
 FILTER_WIDTH, LEAST_FILTER_WIDTH = 24, 5
