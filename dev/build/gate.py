@@ -1,48 +1,74 @@
 #!/usr/bin/env python3
-"""The whole gate: `rt ci` on a copy of the repository's files, everything from nothing.
+"""The whole gate: every proof, every edit and every test, on a copy of the repository's files, from nothing.
 
-The copy has the files that git knows and those that it doesn't ignore, but for the crates that promise
-nothing, so kept work is neither read nor changed. Where all passed, the crates' sums are written to
-dev/build/edits_seen.txt, since each edit was seen refused. After `rt ci` dev/trials/long/check_memory.py refuses memory
-and threads to the program that it built. The last line is `N passed, M failed`, of `rt ci` and the program's check.
+The copy has the files that git knows and those that it doesn't ignore, but for the crates that promise nothing, so kept
+work is neither read nor changed. There each library is proved, each program by both compilers, the tests' own code too,
+and each edit must be refused; edits of one crate share checks (dev/build/groups.py), since the toolchain's own `rt ci`,
+which tries each alone and proves each crate once more for it, takes three times as long. Where all passed, the crates'
+sums are written to dev/build/edits_seen.txt, since each edit was seen refused. Then dev/trials/long/check_memory.py
+refuses memory and threads to the program that was built. The last line is `N passed, M failed`, of all that was proved,
+run and tried.
 """
 import argparse
-import re
+import contextlib
 import subprocess
 import sys
 import tempfile
+from collections.abc import Iterator
 from pathlib import Path
 
-from repository import CHECKS, MEMORY, PROGRAM, ROOT, RT, copy_to, libraries
+from lanes import in_lanes
+from repository import CHECKS, MEMORY, PROGRAM, ROOT, copy_to, crates, libraries, toolchain
 from seen import forget, sums_of, write_seen
+from steps import Step, all_steps, counts_of, edit_steps
 
 
-def judged(top: Path) -> tuple[int, int]:
-    """Runs `rt ci` and what is checked of the program: how many passed, and how many failed."""
-    counts = 0, 1
-    with subprocess.Popen([*RT, "ci"], cwd=top, text=True, errors="replace", stdout=subprocess.PIPE) as ran:
-        for line in ran.stdout or ():
-            said = re.fullmatch(r"(\d+) passed, (\d+) failed\n", line)
-            counts = (int(said[1]), int(said[2])) if said else counts
-            print("" if said else line, end="", flush=True)
-    passed, failed = counts[0], max(counts[1], int(ran.returncode != 0))
-    refused = subprocess.run([ROOT / MEMORY, top / PROGRAM]).returncode
-    return passed + (refused == 0), failed + (refused != 0)
+def every_step() -> list[Step]:
+    """A step for each proof and each test, and those of all edits."""
+    return [*all_steps(libraries(), proves_tests=True), *(step for it in libraries() for step in edit_steps(it, 0))]
+
+
+def judged_here() -> int:
+    """Does what isn't done yet of all steps, on the files where this script lies: the status."""
+    steps = every_step()
+    _ = toolchain().rtlib.lock(list(crates().values()))
+    in_lanes(steps)
+    done, wrong = counts_of(steps)
+    print("".join(f"FAILED: {it.key}\n" for it in steps if not it.is_well()), end="")
+    memory = subprocess.run([ROOT / MEMORY, ROOT / PROGRAM]).returncode
+    print(f"{done + (memory == 0)} passed, {wrong + (memory != 0)} failed", flush=True)
+    return 1 if wrong or memory else 0
+
+
+@contextlib.contextmanager
+def folder(kept: Path | None) -> Iterator[Path]:
+    """The folder of the copy: a new one that is kept, or one for this run alone."""
+    if kept:
+        kept.mkdir(parents=True)
+        yield kept.resolve()
+        return
+    with tempfile.TemporaryDirectory(prefix="bpfrec-gate-") as top:
+        yield Path(top)
 
 
 def main() -> int:
-    argparse.ArgumentParser(description=__doc__, formatter_class=argparse.RawDescriptionHelpFormatter).parse_args()
+    parser = argparse.ArgumentParser(description=__doc__, formatter_class=argparse.RawDescriptionHelpFormatter)
+    where = parser.add_mutually_exclusive_group()
+    where.add_argument("--into", type=Path, metavar="FOLDER", help="copies to FOLDER, a new one, which is kept")
+    where.add_argument("--here", action="store_true", help="goes on in the copy where this script lies")
+    words = parser.parse_args()
+    if words.here:
+        return judged_here()
     if any([subprocess.run([ROOT / it]).returncode for it in CHECKS]):
         return 1
     before = {it: sums_of(it) for it in libraries()}
-    with tempfile.TemporaryDirectory(prefix="bpfrec-gate-") as top:
-        copy_to(Path(top))
-        passed, failed = judged(Path(top))
+    with folder(words.into) as top:
+        copy_to(top)
+        status = subprocess.run([top / "dev/build/gate.py", "--here"]).returncode
     forget()
-    if not failed and before == {it: sums_of(it) for it in before}:
+    if not status and before == {it: sums_of(it) for it in before}:
         write_seen(before)
-    print(f"{passed} passed, {failed} failed")
-    return 1 if failed else 0
+    return status
 
 
 if __name__ == "__main__":

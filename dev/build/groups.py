@@ -16,7 +16,7 @@ from typing import Any, NamedTuple, Optional
 from repository import toolchain
 
 # How many edits are tried in one check. Of nine edits of bpf_verify three at a time took 46 % of the time.
-TOGETHER = 3
+TOGETHER = 8
 HEAD = re.compile(r"^( *)(?:pub(?:\([\w ]+\))? )?(?:const )?fn (\w+)")
 # A line of a check on a goal that is not proved.
 GOAL = re.compile(r"note: (\S+?):(\d+):\d+: it is not proved ")
