@@ -1,35 +1,39 @@
--- A text once its comments are blanks, and its lines.
--- a semicolon begins a comment that runs to the end of its line; a slash and a star begin one that runs to the next
--- star and slash, over lines too; neither begins a comment inside the other (the assembler's input of the Linux
--- kernel's networking documentation, "Linux Socket Filtering")
-use Rattle.std.specs.Prelude.{ℕ, ◌+◌, ◌-◌, Bool, ◌==◌, nat_eq, codes, if◌then◌else◌, List, [], ◌∷◌, length, drop, Option, None, Some}
+-- A text once its comments are blanks, and its lines. a semicolon begins a comment that runs to the
+-- end of its line; a slash and a star begin one that runs to the next star and slash, over lines
+-- too; neither begins a comment inside the other (the assembler's input of the Linux kernel's
+-- networking documentation, "Linux Socket Filtering")
+use Rattle.std.specs.Prelude.{ℕ, ◌+◌, ◌-◌, Bool, ◌==◌, nat_eq, codes, if◌then◌else◌, List, [], ◌∷◌}
+use Rattle.std.specs.Prelude.{length, drop, Option, None, Some}
 use Rattle.std.specs.Option.{option_map}
 use Rattle.std.specs.List.{position_or_len, starts_with}
 
 abbrev pub is_line_feed : ℕ → Bool
 is_line_feed b = b == 10
 
--- what a byte of a comment counts as: a line feed ends its line there too, and each other byte is a space
+-- what a byte of a comment counts as: a line feed ends its line there too, and each other byte is a
+-- space
 abbrev pub blank_of : ℕ → ℕ
 blank_of b = if is_line_feed b then 10 else 32
 
 abbrev pub begins_with : List ℕ → List ℕ → Bool
 begins_with bs text = starts_with nat_eq bs text
 
--- how many bytes there are to the first star and slash, with these two; None where there is no star and slash
+-- how many bytes there are to the first star and slash, with these two; None where there is no star
+-- and slash
 abbrev pub closing_len : List ℕ → Option ℕ
 closing_len [] = None
 closing_len (b ∷ bs) =
     if begins_with (b ∷ bs) (codes "*/") then Some 2 else
     option_map (λ n. n + 1) (closing_len bs)
 
--- a byte outside comments: what it counts as, and how many of the bytes after it belong to a comment that it begins
+-- a byte outside comments: what it counts as, and how many of the bytes after it belong to a
+-- comment that it begins
 pub record OutsideByte : Type 0 where
   pub byte : ℕ
   pub commented : ℕ
 
--- a slash, by where the comment ends that it begins with the first of these bytes; where the comment has no end the
--- slash stays, and it is no byte that a line may have
+-- a slash, by where the comment ends that it begins with the first of these bytes; where the
+-- comment has no end the slash stays, and it is no byte that a line may have
 abbrev pub slash_byte : List ℕ → Option ℕ → OutsideByte
 slash_byte bs (Some n) = record { byte = 32; commented = 1 + n }
 slash_byte bs None = record { byte = 47; commented = length bs }

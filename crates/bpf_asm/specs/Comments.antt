@@ -31,11 +31,12 @@ pub data Blanks : List ℕ → List ℕ → Type 0 where
   -- a semicolon with what follows it in its line, and the rest
   LineComment : (inside rest shown : List ℕ) → IsOneLine inside → IsAtLineEnd rest
       → Blanks rest shown → Blanks (59 ∷ (inside ++ rest)) (blanks (59 ∷ inside) ++ shown)
-  -- a slash and a star, what stands before the next star and slash, these two, and the rest; the star of the one is
-  -- not that of the other
+  -- a slash and a star, what stands before the next star and slash, these two, and the rest; the
+  -- star of the one is not that of the other
   Comment : (inside rest shown : List ℕ) → HasNoEnd (inside ++ 42 ∷ []) → Blanks rest shown
       → Blanks (codes "/*" ++ (inside ++ (codes "*/" ++ rest)))
       (blanks (codes "/*" ++ (inside ++ codes "*/")) ++ shown)
-  -- a slash and a star that no star and slash follow: the slash stays, and it is no byte that a line may have
+  -- a slash and a star that no star and slash follow: the slash stays, and it is no byte that a
+  -- line may have
   OpenComment : (inside : List ℕ) → HasNoEnd inside
       → Blanks (codes "/*" ++ inside) (47 ∷ blanks (42 ∷ inside))

@@ -1,5 +1,6 @@
 -- Which program a text denotes.
-use Rattle.std.specs.Prelude.{ℕ, ◌+◌, ◌≡◌, ◌≢◌, ◌<◌, ◌≤◌, List, [], ◌∷◌, ◌++◌, map, length, Option, None, Some, All, AllPairs, Contains}
+use Rattle.std.specs.Prelude.{ℕ, ◌+◌, ◌≡◌, ◌≢◌, ◌<◌, ◌≤◌, List, [], ◌∷◌, ◌++◌, map, length, Option}
+use Rattle.std.specs.Prelude.{None, Some, All, AllPairs, Contains}
 use Rattle.std.specs.List.{filter_map}
 use Rattle.bpf_insn.specs.declared.insn.Insn.{Insn}
 use Rattle.bpf_insn.specs.declared.insn.TheConstants.{MAX_INSNS}
@@ -36,7 +37,8 @@ labels_from at (shape ∷ shapes) =
 abbrev pub templates_of : List Shape → List Template
 templates_of shapes = filter_map (λ shape. shape.insn) shapes
 
--- from the instruction with this index the offset leads to the one that the label names: offset 0 is the next one
+-- from the instruction with this index the offset leads to the one that the label names: offset 0
+-- is the next one
 abbrev pub Leads : List Label → ℕ → List ℕ → ℕ → Type 0
 Leads labels at name offset = Contains labels (record { name = name; at = at + 1 + offset })
 
@@ -51,7 +53,8 @@ HasJumpFields labels at NoJump k insn = (insn.jt ≡ 0) × (insn.jf ≡ 0) × (i
 HasJumpFields labels at (Always name) k insn =
     (insn.jt ≡ 0) × (insn.jf ≡ 0) × Leads labels at name insn.k
 HasJumpFields labels at (Branch holds fails) k insn =
-    BranchesToLabels labels at holds insn.jt × BranchesToLabels labels at fails insn.jf × (insn.k ≡ k)
+    BranchesToLabels labels at holds insn.jt × BranchesToLabels labels at fails insn.jf
+    × (insn.k ≡ k)
 
 -- the instruction with this index is the one that its line says
 abbrev pub IsInsn : List Label → ℕ → Template → Insn → Type 0
@@ -75,7 +78,8 @@ pub record DenotesBy (shapes : List Shape) (program : List Insn) : Type 0 where
   pub insns : AreInsns (labels_from 0 shapes) 0 (templates_of shapes) program
   pub size : length program ≤ MAX_INSNS
 
--- the text denotes the program: each line has its shape, and by these shapes the program is the text's
+-- the text denotes the program: each line has its shape, and by these shapes the program is the
+-- text's
 abbrev pub Denotes : List ℕ → List Insn → Type 0
 Denotes text program =
     (shapes : List Shape) × HaveShapes (lines_of (without_comments text)) shapes

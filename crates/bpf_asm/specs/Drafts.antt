@@ -1,5 +1,7 @@
--- What the assembler's values stand for between its two passes, and what each step of a pass does to them.
-use Rattle.std.specs.Prelude.{ℕ, ◌+◌, ◌≡◌, ◌≤◌, ◌⊎◌, ◌↔◌, List, [], ◌∷◌, ◌++◌, map, length, Option, None, Some}
+-- What the assembler's values stand for between its two passes, and what each step of a pass does
+-- to them.
+use Rattle.std.specs.Prelude.{ℕ, ◌+◌, ◌≡◌, ◌≤◌, ◌⊎◌, ◌↔◌, List, [], ◌∷◌, ◌++◌, map, length, Option}
+use Rattle.std.specs.Prelude.{None, Some}
 use Rattle.std.specs.Prelude.{Contains, Result, MatchResult, if◌then◌else◌, bytes_eq, vec_len}
 use Rattle.std.specs.Global.{Vec}
 use Rattle.std.specs.BTreeMap.{get_by}
@@ -14,8 +16,10 @@ use Rattle.bpf_asm.specs.declared.draft.Draft.{Draft}
 use Rattle.bpf_asm.specs.declared.draft.Unlinked.{Unlinked}
 use Rattle.bpf_asm.specs.Templates.{Template}
 use Rattle.bpf_asm.specs.Grammar.{Shape, HasShape}
-use Rattle.bpf_asm.specs.Denotes.{Label, HaveShapes, labels_from, templates_of, Leads, BranchesToLabels, IsInsn, AreInsns}
-use Rattle.bpf_asm.specs.FirstFault.{names_of, Once, AreFollowed, Unfollowed, LineBreaks, FaultInLine, LabelBreaks, TargetBreaks, JumpBreaks}
+use Rattle.bpf_asm.specs.Denotes.{Label, HaveShapes, labels_from, templates_of, Leads}
+use Rattle.bpf_asm.specs.Denotes.{BranchesToLabels, IsInsn, AreInsns}
+use Rattle.bpf_asm.specs.FirstFault.{names_of, Once, AreFollowed, Unfollowed, LineBreaks}
+use Rattle.bpf_asm.specs.FirstFault.{FaultInLine, LabelBreaks, TargetBreaks, JumpBreaks}
 use Rattle.bpf_asm.specs.Views.{template_data, jump_data, unlinked_data}
 
 -- the index that a name has in a table of labels
@@ -34,7 +38,8 @@ IsTableOf labels table =
     (name : List ℕ) (at : ℕ)
     → (index_in table name ≡ Some at) ↔ Contains labels (record { name = name; at = at })
 
--- the instruction of a line, where there is one, with the line's number, before those of later lines
+-- the instruction of a line, where there is one, with the line's number, before those of later
+-- lines
 abbrev pub cons_numbered : ℕ → Option Template → List (Template × ℕ) → List (Template × ℕ)
 cons_numbered number None numbered = numbered
 cons_numbered number (Some template) numbered = (template, number) ∷ numbered
@@ -87,8 +92,8 @@ abbrev pub FullOrMemory : List Shape → AsmFault → Type 0
 FullOrMemory shapes fault =
     (fault ≡ Memory) ⊎ ((fault ≡ TooLong) × (length (templates_of shapes) ≡ MAX_INSNS))
 
--- the draft of any lines before the line with this number becomes that of those lines and this one, or the fault is
--- that of this line after those
+-- the draft of any lines before the line with this number becomes that of those lines and this one,
+-- or the fault is that of this line after those
 abbrev pub AddsLine : Draft → List ℕ → ℕ → Result (Unit {0}) AsmFault → Draft → Type 0
 AddsLine old line number result new =
     (shapes : List Shape) → length shapes + 1 ≡ number → IsDraftOf shapes old

@@ -1,23 +1,27 @@
--- The first fault of a text that denotes no program.
--- first come the faults of lines, in the text's order: a fault of the line's tokens, a name that is a label for the
--- second time, a fault of its mnemonic and operand, one instruction too many
--- then come labels that no instruction follows, and then, jump by jump, the labels that jumps name
-use Rattle.std.specs.Prelude.{ℕ, ◌+◌, ◌≡◌, ◌≢◌, ◌<◌, ◌≤◌, ◌⊎◌, List, [], ◌∷◌, ◌++◌, length, Option, None, Some, Ok, Err, All, AllPairs, Contains}
+-- The first fault of a text that denotes no program. first come the faults of lines, in the text's
+-- order: a fault of the line's tokens, a name that is a label for the second time, a fault of its
+-- mnemonic and operand, one instruction too many then come labels that no instruction follows, and
+-- then, jump by jump, the labels that jumps name
+use Rattle.std.specs.Prelude.{ℕ, ◌+◌, ◌≡◌, ◌≢◌, ◌<◌, ◌≤◌, ◌⊎◌, List, [], ◌∷◌, ◌++◌, length, Option}
+use Rattle.std.specs.Prelude.{None, Some, Ok, Err, All, AllPairs, Contains}
 use Rattle.std.specs.List.{flat_map}
 use Rattle.bpf_insn.specs.declared.insn.Insn.{Insn}
 use Rattle.bpf_insn.specs.declared.insn.TheConstants.{MAX_INSNS}
 use Rattle.bpf_asm.specs.declared.fault.LineFault.{LineFault}
 use Rattle.bpf_asm.specs.declared.fault.LineFault.TheVariants as line
 use Rattle.bpf_asm.specs.declared.fault.AsmFault.{AsmFault}
-use Rattle.bpf_asm.specs.declared.fault.AsmFault.TheVariants.{Syntax, Number, UnknownMnemonic, OperandNotAllowed}
-use Rattle.bpf_asm.specs.declared.fault.AsmFault.TheVariants.{LabelMissing, LabelTwice, Backward, TooFar, TooLong}
+use Rattle.bpf_asm.specs.declared.fault.AsmFault.TheVariants.{Syntax, Number, UnknownMnemonic}
+use Rattle.bpf_asm.specs.declared.fault.AsmFault.TheVariants.{OperandNotAllowed}
+use Rattle.bpf_asm.specs.declared.fault.AsmFault.TheVariants.{LabelMissing, LabelTwice, Backward}
+use Rattle.bpf_asm.specs.declared.fault.AsmFault.TheVariants.{TooFar, TooLong}
 use Rattle.bpf_asm.specs.Blanked.{without_comments, lines_of}
 use Rattle.bpf_asm.specs.Tokens.{line_tokens}
 use Rattle.bpf_asm.specs.Templates.{Template, Jump}
 use Rattle.bpf_asm.specs.Templates.Jump.{NoJump, Always, Branch}
 use Rattle.bpf_asm.specs.Lines.{Reading, reading_of}
 use Rattle.bpf_asm.specs.Grammar.{Shape}
-use Rattle.bpf_asm.specs.Denotes.{HaveShapes, Label, labels_from, templates_of, Leads, BranchesToLabels, AreInsns, Denotes}
+use Rattle.bpf_asm.specs.Denotes.{HaveShapes, Label, labels_from, templates_of, Leads}
+use Rattle.bpf_asm.specs.Denotes.{BranchesToLabels, AreInsns, Denotes}
 
 -- a fault of one line, in the line with this number
 abbrev pub in_line : ℕ → LineFault → AsmFault
@@ -34,8 +38,8 @@ names_of shapes = flat_map (λ shape. shape.labels) shapes
 abbrev pub Once : List (List ℕ) → Type 0
 Once names = AllPairs (λ first second. first ≢ second) names
 
--- lines without a fault: each has its shape, no name is a label twice, and there are no more instructions than a
--- program may have
+-- lines without a fault: each has its shape, no name is a label twice, and there are no more
+-- instructions than a program may have
 pub record AreWell (lines : List (List ℕ)) (shapes : List Shape) : Type 0 where
   pub shaped : HaveShapes lines shapes
   pub once : Once (names_of shapes)
@@ -103,7 +107,8 @@ pub record FaultAtEnd (lines : List (List ℕ)) (fault : AsmFault) : Type 0 wher
   pub labels : Unfollowed shapes number
   pub reported : fault ≡ Syntax number
 
--- what is wrong with a label that the instruction with this index names, in the line with this number
+-- what is wrong with a label that the instruction with this index names, in the line with this
+-- number
 pub data LabelBreaks (labels : List Label) (at number : ℕ) (name : List ℕ) : AsmFault → Type 0 where
   -- no instruction has this label
   Missing : All (λ label. label.name ≢ name) labels
@@ -122,7 +127,8 @@ TargetBreaks labels at number None fault = ⊥
 TargetBreaks labels at number (Some name) fault =
     LabelBreaks labels at number name fault ⊎ (LeadsTooFar labels at name × (fault ≡ TooFar number))
 
--- the first fault among the labels that an instruction names: of a test's two labels, where it holds goes first
+-- the first fault among the labels that an instruction names: of a test's two labels, where it
+-- holds goes first
 abbrev pub JumpBreaks : List Label → ℕ → ℕ → Jump → AsmFault → Type 0
 JumpBreaks labels at number NoJump fault = ⊥
 JumpBreaks labels at number (Always name) fault = LabelBreaks labels at number name fault

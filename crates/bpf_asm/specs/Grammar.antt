@@ -7,8 +7,10 @@ use Rattle.bpf_asm.specs.declared.mnemonic.Mnemonic.{Mnemonic}
 use Rattle.bpf_asm.specs.Tokens.{Token, line_tokens}
 use Rattle.bpf_asm.specs.Tokens.Token.{NameToken, NumberToken, SignToken}
 use Rattle.bpf_asm.specs.Operands.{Operand}
-use Rattle.bpf_asm.specs.Operands.Operand.{Nothing, Absolute, Indexed, Scratch, Immediate, Bare, Word, HashWord}
-use Rattle.bpf_asm.specs.Operands.Operand.{IndexRegister, Accumulator, Length, HeaderLength, Targets}
+use Rattle.bpf_asm.specs.Operands.Operand.{Nothing, Absolute, Indexed, Scratch, Immediate, Bare}
+use Rattle.bpf_asm.specs.Operands.Operand.{Word, HashWord}
+use Rattle.bpf_asm.specs.Operands.Operand.{IndexRegister, Accumulator, Length, HeaderLength}
+use Rattle.bpf_asm.specs.Operands.Operand.{Targets}
 use Rattle.bpf_asm.specs.Mnemonics.{mnemonic_of}
 use Rattle.bpf_asm.specs.Templates.{Template, template_of}
 use Rattle.bpf_asm.specs.Lines.{Reading}
@@ -91,7 +93,8 @@ pub record Shape : Type 0 where
   pub labels : List (List ℕ)
   pub insn : Option Template
 
--- a line has this shape: its tokens have no fault, and they are the labels and then the instruction if there is one
+-- a line has this shape: its tokens have no fault, and they are the labels and then the instruction
+-- if there is one
 abbrev pub HasShape : List ℕ → Shape → Type 0
 HasShape line shape =
     (rest : List Token) × (line_tokens line ≡ Ok (label_tokens shape.labels ++ rest))

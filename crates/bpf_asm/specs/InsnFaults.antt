@@ -1,7 +1,9 @@
--- Which fault the instruction of a line has, by the grammar: a fault of the tokens that follow the line's labels.
+-- Which fault the instruction of a line has, by the grammar: a fault of the tokens that follow the
+-- line's labels.
 use Rattle.std.specs.Prelude.{ℕ, ◌≡◌, ◌≢◌, List, ◌∷◌, ◌++◌, None, Some, Ok, Err}
 use Rattle.bpf_asm.specs.declared.fault.LineFault.{LineFault}
-use Rattle.bpf_asm.specs.declared.fault.LineFault.TheVariants.{Syntax, UnknownMnemonic, OperandNotAllowed}
+use Rattle.bpf_asm.specs.declared.fault.LineFault.TheVariants.{Syntax, UnknownMnemonic}
+use Rattle.bpf_asm.specs.declared.fault.LineFault.TheVariants.{OperandNotAllowed}
 use Rattle.bpf_asm.specs.declared.mnemonic.Mnemonic.{Mnemonic}
 use Rattle.bpf_asm.specs.Tokens.{Token, line_tokens}
 use Rattle.bpf_asm.specs.Tokens.Token.{NameToken, SignToken}

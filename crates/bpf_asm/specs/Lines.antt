@@ -1,7 +1,10 @@
--- What one line reads as: its labels, and then its instruction or the first fault of its mnemonic and operand.
-use Rattle.std.specs.Prelude.{ℕ, ◌==◌, if◌then◌else◌, List, [], ◌∷◌, Option, None, Some, Result, Ok, Err}
+-- What one line reads as: its labels, and then its instruction or the first fault of its mnemonic
+-- and operand.
+use Rattle.std.specs.Prelude.{ℕ, ◌==◌, if◌then◌else◌, List, [], ◌∷◌, Option, None, Some, Result, Ok}
+use Rattle.std.specs.Prelude.{Err}
 use Rattle.bpf_asm.specs.declared.fault.LineFault.{LineFault}
-use Rattle.bpf_asm.specs.declared.fault.LineFault.TheVariants.{Syntax, UnknownMnemonic, OperandNotAllowed}
+use Rattle.bpf_asm.specs.declared.fault.LineFault.TheVariants.{Syntax, UnknownMnemonic}
+use Rattle.bpf_asm.specs.declared.fault.LineFault.TheVariants.{OperandNotAllowed}
 use Rattle.bpf_asm.specs.declared.mnemonic.Mnemonic.{Mnemonic}
 use Rattle.bpf_asm.specs.Tokens.{Token, line_tokens, ◌>>=◌}
 use Rattle.bpf_asm.specs.Tokens.Token.{NameToken, SignToken}
@@ -35,13 +38,15 @@ abbrev pub with_mnemonic : Option Mnemonic → List Token → Result (Option Tem
 with_mnemonic None ts = Err UnknownMnemonic
 with_mnemonic (Some mnemonic) ts = with_shape mnemonic (operand_of ts)
 
--- the instruction that tokens without labels are, none where there are no tokens, or their first fault
+-- the instruction that tokens without labels are, none where there are no tokens, or their first
+-- fault
 abbrev pub insn_of_tokens : List Token → Result (Option Template) LineFault
 insn_of_tokens [] = Ok None
 insn_of_tokens (NameToken name ∷ ts) = with_mnemonic (mnemonic_of name) ts
 insn_of_tokens ts = Err Syntax
 
--- what a line whose tokens have no fault reads as: its labels, and then its instruction if it has one, or a fault
+-- what a line whose tokens have no fault reads as: its labels, and then its instruction if it has
+-- one, or a fault
 pub record Reading : Type 0 where
   pub labels : List (List ℕ)
   pub insn : Result (Option Template) LineFault

@@ -2,8 +2,11 @@
 use Rattle.std.specs.Prelude.{ℕ, ◌≡◌, ◌||◌, codes, if◌then◌else◌, List, Option, None, Some}
 use Rattle.std.specs.Option.{option_or}
 use Rattle.bpf_asm.specs.declared.mnemonic.Mnemonic.{Mnemonic}
-use Rattle.bpf_asm.specs.declared.mnemonic.Mnemonic.TheVariants.{Ld, Ldi, Ldh, Ldb, Ldx, Ldxi, Ldxb, St, Stx, Jmp, Test, Inverted, Alu, Neg, Tax, Txa, Ret}
-use Rattle.bpf_insn.specs.declared.form.Op.TheVariants.{Add, Sub, Mul, Div, Or, And, Lsh, Rsh, Mod, Xor}
+use Rattle.bpf_asm.specs.declared.mnemonic.Mnemonic.TheVariants.{Ld, Ldi, Ldh, Ldb, Ldx, Ldxi, Ldxb}
+use Rattle.bpf_asm.specs.declared.mnemonic.Mnemonic.TheVariants.{St, Stx, Jmp, Test, Inverted, Alu}
+use Rattle.bpf_asm.specs.declared.mnemonic.Mnemonic.TheVariants.{Neg, Tax, Txa, Ret}
+use Rattle.bpf_insn.specs.declared.form.Op.TheVariants.{Add, Sub, Mul, Div, Or, And, Lsh, Rsh, Mod}
+use Rattle.bpf_insn.specs.declared.form.Op.TheVariants.{Xor}
 use Rattle.bpf_insn.specs.declared.form.Cond.TheVariants.{Eq, Gt, Ge, Set}
 use Rattle.bpf_insn.specs.declared.form.Size.TheVariants.{W, H, B}
 use Rattle.bpf_insn.specs.Mnemonics.{load_name}

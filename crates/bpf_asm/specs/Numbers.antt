@@ -1,5 +1,6 @@
 -- The number that a spelling says.
-use Rattle.std.specs.Prelude.{ℕ, ◌-◌, Bool, ◌==◌, ◌||◌, ◌&&◌, nat_le, if◌then◌else◌, List, [], ◌∷◌, Option, None, Some}
+use Rattle.std.specs.Prelude.{ℕ, ◌-◌, Bool, ◌==◌, ◌||◌, ◌&&◌, nat_le, if◌then◌else◌, List, [], ◌∷◌}
+use Rattle.std.specs.Prelude.{Option, None, Some}
 use Rattle.std.specs.Option.{option_map}
 use Rattle.std.specs.Char.{is_digit}
 use Rattle.std.specs.List.{list_all}
@@ -24,8 +25,8 @@ numeral base most (d ∷ ds) = digits_number base most (d ∷ ds)
 abbrev pub negative_of : ℕ → ℕ
 negative_of n = if n == 0 then 0 else 4294967296 - n
 
--- what a spelling says that begins with a zero, from the bytes after it: 0 alone, hexadecimal after x or X, binary
--- after b or B, else octal
+-- what a spelling says that begins with a zero, from the bytes after it: 0 alone, hexadecimal after
+-- x or X, binary after b or B, else octal
 abbrev pub after_zero : List ℕ → Option ℕ
 after_zero [] = Some 0
 after_zero (b ∷ bs) =

@@ -1,12 +1,14 @@
 -- The operands of a line.
-use Rattle.std.specs.Prelude.{ℕ, Bool, ◌==◌, nat_eq, codes, if◌then◌else◌, List, [], ◌∷◌, Option, None, Some, option_and_then}
+use Rattle.std.specs.Prelude.{ℕ, Bool, ◌==◌, nat_eq, codes, if◌then◌else◌, List, [], ◌∷◌, Option}
+use Rattle.std.specs.Prelude.{None, Some, option_and_then}
 use Rattle.std.specs.Cmp.Lexicographic.{pointwise}
 use Rattle.bpf_insn.specs.declared.form.Src.{Src}
 use Rattle.bpf_insn.specs.declared.form.Src.TheVariants.{K, X}
 use Rattle.bpf_asm.specs.Tokens.{Token}
 use Rattle.bpf_asm.specs.Tokens.Token.{NameToken, NumberToken, SignToken}
 
--- an operand by its shape; a test's has where it takes what the accumulator is compared with, and the constant
+-- an operand by its shape; a test's has where it takes what the accumulator is compared with, and
+-- the constant
 pub data Operand : Type 0 where
   Nothing : Operand
   Absolute : ℕ → Operand

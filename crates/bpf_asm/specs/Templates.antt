@@ -1,5 +1,6 @@
 -- What instruction a mnemonic with an operand stands for, its labels left open.
-use Rattle.std.specs.Prelude.{ℕ, ◌==◌, ◌&&◌, ◌≡◌, false, codes, if◌then◌else◌, List, Option, None, Some}
+use Rattle.std.specs.Prelude.{ℕ, ◌==◌, ◌&&◌, ◌≡◌, false, codes, if◌then◌else◌, List, Option, None}
+use Rattle.std.specs.Prelude.{Some}
 use Rattle.bpf_insn.specs.declared.form.Form.{Form}
 use Rattle.bpf_insn.specs.declared.form.Form.TheVariants as form
 use Rattle.bpf_insn.specs.declared.form.Size.TheVariants.{W, H, B}
@@ -8,10 +9,14 @@ use Rattle.bpf_insn.specs.declared.form.Src.TheVariants.{K, X}
 use Rattle.bpf_insn.specs.declared.form.Cond.{Cond}
 use Rattle.bpf_insn.specs.Uses.{uses_k}
 use Rattle.bpf_asm.specs.declared.mnemonic.Mnemonic.{Mnemonic}
-use Rattle.bpf_asm.specs.declared.mnemonic.Mnemonic.TheVariants.{Ld, Ldi, Ldh, Ldb, Ldx, Ldxi, Ldxb, St, Stx, Jmp, Test, Inverted, Alu, Neg, Tax, Txa, Ret}
+use Rattle.bpf_asm.specs.declared.mnemonic.Mnemonic.TheVariants.{Ld, Ldi, Ldh, Ldb, Ldx, Ldxi, Ldxb}
+use Rattle.bpf_asm.specs.declared.mnemonic.Mnemonic.TheVariants.{St, Stx, Jmp, Test, Inverted, Alu}
+use Rattle.bpf_asm.specs.declared.mnemonic.Mnemonic.TheVariants.{Neg, Tax, Txa, Ret}
 use Rattle.bpf_asm.specs.Operands.{Operand, is_name}
-use Rattle.bpf_asm.specs.Operands.Operand.{Nothing, Absolute, Indexed, Scratch, Immediate, Bare, Word, HashWord}
-use Rattle.bpf_asm.specs.Operands.Operand.{IndexRegister, Accumulator, Length, HeaderLength, Targets}
+use Rattle.bpf_asm.specs.Operands.Operand.{Nothing, Absolute, Indexed, Scratch, Immediate, Bare}
+use Rattle.bpf_asm.specs.Operands.Operand.{Word, HashWord}
+use Rattle.bpf_asm.specs.Operands.Operand.{IndexRegister, Accumulator, Length, HeaderLength}
+use Rattle.bpf_asm.specs.Operands.Operand.{Targets}
 
 -- where an instruction jumps to, by labels; None is the next instruction
 pub data Jump : Type 0 where
@@ -91,7 +96,8 @@ abbrev pub NamesOne : Option (List ℕ) → Option (List ℕ) → Type 0
 NamesOne None None = ⊥
 NamesOne holds fails = Unit {0}
 
--- the labels that an instruction of this form names: a jump names one, a test one or two, each other none
+-- the labels that an instruction of this form names: a jump names one, a test one or two, each
+-- other none
 abbrev pub NamesLabels : Form → Jump → Type 0
 NamesLabels form.Ja jump = (name : List ℕ) × (jump ≡ Always name)
 NamesLabels (form.Test cond src) jump =

@@ -1,5 +1,6 @@
 -- The tokens of a line.
-use Rattle.std.specs.Prelude.{ℕ, Bool, false, ◌==◌, ◌||◌, ◌&&◌, if◌then◌else◌, codes, List, [], ◌∷◌, Option, None, Some, Result, Ok, Err}
+use Rattle.std.specs.Prelude.{ℕ, Bool, false, ◌==◌, ◌||◌, ◌&&◌, if◌then◌else◌, codes, List, [], ◌∷◌}
+use Rattle.std.specs.Prelude.{Option, None, Some, Result, Ok, Err}
 use Rattle.std.specs.Char.{is_ascii_digit, is_ascii_alphanumeric}
 use Rattle.std.specs.List.{list_any, prefix_len}
 use Rattle.bpf_asm.specs.declared.fault.LineFault.{LineFault}
@@ -25,7 +26,8 @@ is_word b = is_ascii_alphanumeric b || b == 95
 abbrev pub is_sign : ℕ → Bool
 is_sign b = list_any (λ c. b == c) (codes "#[]()+*&,:%")
 
--- the byte is of one token with the next: both are letters, digits or _, or it is a minus and the next is a digit
+-- the byte is of one token with the next: both are letters, digits or _, or it is a minus and the
+-- next is a digit
 abbrev pub are_joined : ℕ → List ℕ → Bool
 are_joined b [] = false
 are_joined b (c ∷ bs) = (is_word b && is_word c) || (b == 45 && is_ascii_digit c)

@@ -17,8 +17,10 @@ use Rattle.bpf_asm.specs.declared.draft.Unlinked.{Unlinked}
 use Rattle.bpf_asm.specs.declared.fault.LineFault.{LineFault}
 use Rattle.bpf_asm.specs.Lines.{Reading, labels_of}
 use Rattle.bpf_asm.specs.Operands.{Operand}
-use Rattle.bpf_asm.specs.Operands.Operand.{Nothing, Absolute, Indexed, Scratch, Immediate, Bare, Word, HashWord}
-use Rattle.bpf_asm.specs.Operands.Operand.{IndexRegister, Accumulator, Length, HeaderLength, Targets}
+use Rattle.bpf_asm.specs.Operands.Operand.{Nothing, Absolute, Indexed, Scratch, Immediate, Bare}
+use Rattle.bpf_asm.specs.Operands.Operand.{Word, HashWord}
+use Rattle.bpf_asm.specs.Operands.Operand.{IndexRegister, Accumulator, Length, HeaderLength}
+use Rattle.bpf_asm.specs.Operands.Operand.{Targets}
 use Rattle.bpf_asm.specs.Templates.{Jump, Template}
 use Rattle.bpf_asm.specs.Templates.Jump.{NoJump, Always, Branch}
 use Rattle.bpf_asm.specs.Blanked.{without_comments_from, is_line_feed, lines_of}

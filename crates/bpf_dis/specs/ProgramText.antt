@@ -1,10 +1,14 @@
 -- The text of a program in the assembler language of the Linux kernel's networking documentation,
--- "Linux Socket Filtering": a line for each instruction, numbers in decimal, and a label where a jump leads.
-use Rattle.std.specs.Prelude.{ℕ, ◌+◌, Bool, codes, decimal, if◌then◌else◌, List, [], ◌∷◌, ◌++◌, Option, None, Some}
+-- "Linux Socket Filtering": a line for each instruction, numbers in decimal, and a label where a
+-- jump leads.
+use Rattle.std.specs.Prelude.{ℕ, ◌+◌, Bool, codes, decimal, if◌then◌else◌, List, [], ◌∷◌, ◌++◌}
+use Rattle.std.specs.Prelude.{Option, None, Some}
 use Rattle.bpf_insn.specs.declared.insn.Insn.{Insn}
 use Rattle.bpf_insn.specs.declared.form.Form.{Form}
-use Rattle.bpf_insn.specs.declared.form.Form.TheVariants.{LdImm, LdAbs, LdInd, LdMem, LdLen, LdxImm, LdxMem, LdxLen, LdxMsh}
-use Rattle.bpf_insn.specs.declared.form.Form.TheVariants.{St, Stx, Alu, Neg, Ja, Test, RetK, RetA, Tax, Txa}
+use Rattle.bpf_insn.specs.declared.form.Form.TheVariants.{LdImm, LdAbs, LdInd, LdMem, LdLen, LdxImm}
+use Rattle.bpf_insn.specs.declared.form.Form.TheVariants.{LdxMem, LdxLen, LdxMsh}
+use Rattle.bpf_insn.specs.declared.form.Form.TheVariants.{St, Stx, Alu, Neg, Ja, Test, RetK, RetA}
+use Rattle.bpf_insn.specs.declared.form.Form.TheVariants.{Tax, Txa}
 use Rattle.bpf_insn.specs.declared.form.Src.{Src}
 use Rattle.bpf_insn.specs.declared.form.Src.TheVariants.{K, X}
 use Rattle.bpf_insn.specs.Flow.{jump_targets}
@@ -64,7 +68,8 @@ label_text labelled at = if labelled then label_name at ++ codes ": " else []
 abbrev pub line_text : Bool → ℕ → Insn → List ℕ
 line_text labelled at insn = label_text labelled at ++ insn_text (form insn.code) at insn
 
--- the lines of these instructions of a program, the first of which has this index; each ends in a line feed
+-- the lines of these instructions of a program, the first of which has this index; each ends in a
+-- line feed
 abbrev pub lines_text : List Insn → ℕ → List Insn → List ℕ
 lines_text program at [] = []
 lines_text program at (insn ∷ insns) =

@@ -1,5 +1,6 @@
 -- Where the jumps of a program lead, and which lines have a label.
-use Rattle.std.specs.Prelude.{ℕ, ◌+◌, ◌≡◌, ◌<◌, Bool, false, ◌||◌, ◌==◌, List, [], ◌∷◌, ◌++◌, length, Option, Some, slice_get, slice_index_or, Contains}
+use Rattle.std.specs.Prelude.{ℕ, ◌+◌, ◌≡◌, ◌<◌, Bool, false, ◌||◌, ◌==◌, List, [], ◌∷◌, ◌++◌}
+use Rattle.std.specs.Prelude.{length, Option, Some, slice_get, slice_index_or, Contains}
 use Rattle.std.specs.List.{list_any}
 use Rattle.bpf_insn.specs.declared.insn.Insn.{Insn}
 use Rattle.bpf_insn.specs.declared.form.Form.{Form}
@@ -22,7 +23,8 @@ SomeJumpLeads program to =
     (at : ℕ) × (insn : Insn) × (slice_get program at ≡ Some insn)
     × Contains (jump_targets (form insn.code) insn at) to
 
--- each index to which the instruction with this index may jump becomes labelled, and no other changes
+-- each index to which the instruction with this index may jump becomes labelled, and no other
+-- changes
 abbrev pub LabelsTargets : List Bool → Option Form → Insn → ℕ → List Bool → Type 0
 LabelsTargets old form insn at new =
     (to : ℕ) → to < length old

@@ -4,7 +4,8 @@ use Rattle.std.specs.Prelude.{ℕ, List, codes}
 use Rattle.bpf_insn.specs.declared.form.Size.{Size}
 use Rattle.bpf_insn.specs.declared.form.Size.TheVariants.{W, H, B}
 use Rattle.bpf_insn.specs.declared.form.Op.{Op}
-use Rattle.bpf_insn.specs.declared.form.Op.TheVariants.{Add, Sub, Mul, Div, Or, And, Lsh, Rsh, Mod, Xor}
+use Rattle.bpf_insn.specs.declared.form.Op.TheVariants.{Add, Sub, Mul, Div, Or, And, Lsh, Rsh, Mod}
+use Rattle.bpf_insn.specs.declared.form.Op.TheVariants.{Xor}
 use Rattle.bpf_insn.specs.declared.form.Cond.{Cond}
 use Rattle.bpf_insn.specs.declared.form.Cond.TheVariants.{Eq, Gt, Ge, Set}
 

@@ -1,5 +1,6 @@
 -- Parts of a text with their offsets: what lies between cuts, and what is left without the ends.
-use Rattle.std.specs.Prelude.{ℕ, ◌+◌, ◌-◌, Bool, true, false, not, if◌then◌else◌, List, [], ◌∷◌, filter, length, take, drop}
+use Rattle.std.specs.Prelude.{ℕ, ◌+◌, ◌-◌, Bool, true, false, not, if◌then◌else◌, List, [], ◌∷◌}
+use Rattle.std.specs.Prelude.{filter, length, take, drop}
 use Rattle.std.specs.List.{prefix_len, suffix_len}
 
 -- a part of a text: the offset of its first byte in the text, and its bytes

@@ -6,7 +6,8 @@ use Rattle.bpf_insn.specs.declared.parse.Span.TheVariants.{Gap, Piece, Blanks, W
 use Rattle.bpf_insn.specs.declared.flow.Targets.{Targets}
 use Rattle.bpf_insn.specs.declared.flow.Targets.TheVariants.{Nowhere, One, Two}
 use Rattle.bpf_insn.specs.Parts.{Part}
-use Rattle.bpf_insn.specs.Listing.{pieces_from, words_from, numerals_of, is_separator, is_padding, is_listing_blank}
+use Rattle.bpf_insn.specs.Listing.{pieces_from, words_from, numerals_of, is_separator, is_padding}
+use Rattle.bpf_insn.specs.Listing.{is_listing_blank}
 
 -- the indexes
 abbrev pub targets_data : Targets → List ℕ

@@ -3,8 +3,10 @@
 use Rattle.std.specs.Prelude.{List}
 use Rattle.bpf_insn.specs.declared.insn.Insn.{Insn}
 use Rattle.bpf_verify.specs.declared.fault.VerifyFault.{VerifyFault}
-use Rattle.bpf_verify.specs.declared.fault.VerifyFault.TheVariants.{Empty, TooLong, BadOpcode, BadScratch}
-use Rattle.bpf_verify.specs.declared.fault.VerifyFault.TheVariants.{ZeroDivisor, JumpOut, NoReturn, Unset}
+use Rattle.bpf_verify.specs.declared.fault.VerifyFault.TheVariants.{Empty, TooLong, BadOpcode}
+use Rattle.bpf_verify.specs.declared.fault.VerifyFault.TheVariants.{BadScratch}
+use Rattle.bpf_verify.specs.declared.fault.VerifyFault.TheVariants.{ZeroDivisor, JumpOut, NoReturn}
+use Rattle.bpf_verify.specs.declared.fault.VerifyFault.TheVariants.{Unset}
 use Rattle.bpf_verify.specs.declared.flaw.Flaw.TheVariants as flaw
 use Rattle.bpf_verify.specs.ControlFlow.{UnsetReadAt}
 use Rattle.bpf_verify.specs.Flaws.{HasFlaw, IsWellFormed, NoUnsetReadBelow}

@@ -1,6 +1,7 @@
 -- What a valid program is: a filter program that may run on every frame. Each path sets a scratch
 -- word before it reads it.
-use Rattle.std.specs.Prelude.{ℕ, ◌-◌, ◌<◌, ◌≤◌, ◌≡◌, ◌⊎◌, List, length, Option, None, Some, slice_get}
+use Rattle.std.specs.Prelude.{ℕ, ◌-◌, ◌<◌, ◌≤◌, ◌≡◌, ◌⊎◌, List, length, Option, None, Some}
+use Rattle.std.specs.Prelude.{slice_get}
 use Rattle.bpf_insn.specs.declared.insn.TheConstants.{MAX_INSNS, SCRATCH_WORDS}
 use Rattle.bpf_insn.specs.declared.insn.Insn.{Insn}
 use Rattle.bpf_insn.specs.declared.form.Form.{Form}

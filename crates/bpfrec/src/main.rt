@@ -1,19 +1,23 @@
 //! The recorder's program: the words and streams of the process, passed to `rec_cli`.
 #![tactic(auto)]
 
+use std::io::IsTerminal;
 use std::process::ExitCode;
 use std::rt::Files;
 use std::{env, fs, io};
 
 fn main(rt: HostRuntime) -> ExitCode {
     let _held = hold_streams(&rt);
+    let errors = rt.stderr();
+    let explains = errors.is_terminal();
     let status = match words(&rt) {
         Ok(words) => rec_cli::program(
             &rt,
             words.as_slice(),
             rt.reader(),
             &mut io::writer(&rt),
-            rt.stderr(),
+            errors,
+            explains,
         ),
         Err(error) => rec_cli::words_unread(rt.alloc(), &error, rt.stderr()),
     };

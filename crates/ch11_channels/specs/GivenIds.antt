@@ -1,5 +1,6 @@
 -- The channels of a file of several recordings, and the IDs that they have in it.
-use Rattle.std.specs.Prelude.{ℕ, ◌≡◌, ◌<◌, ◌^◌, ◌==◌, ◌&&◌, ◌||◌, ◌⊎◌, Bool, true, false, if◌then◌else◌, List, [], ◌∷◌, ◌++◌, map, length, get_or}
+use Rattle.std.specs.Prelude.{ℕ, ◌≡◌, ◌<◌, ◌^◌, ◌==◌, ◌&&◌, ◌||◌, ◌⊎◌, Bool, true, false}
+use Rattle.std.specs.Prelude.{if◌then◌else◌, List, [], ◌∷◌, ◌++◌, map, length, get_or}
 use Rattle.std.specs.List.{list_any}
 use Rattle.ch11_channels.specs.declared.channels.RunChannel.{RunChannel}
 use Rattle.ch11_channels.specs.declared.channels.FileChannel.{FileChannel}
@@ -50,8 +51,8 @@ is_id_of channels id = list_any (is_given id) channels
 abbrev pub is_taken_id : (named : List RunChannel) → (ahead : List FileChannel) → (id : ℕ) → Bool
 is_taken_id named ahead id = list_any (has_own id) named || is_id_of ahead id
 
--- a channel behind these keeps its ID, if none of them has the same in its recordings; else it has the least one
--- that isn't taken
+-- a channel behind these keeps its ID, if none of them has the same in its recordings; else it has
+-- the least one that isn't taken
 abbrev pub HasId : (named : List RunChannel) → (ahead : List FileChannel) → FileChannel → Type 0
 HasId named ahead channel =
     ((list_any (was_own channel.of.channel) ahead ≡ false) × (channel.id ≡ channel.of.channel))
@@ -65,7 +66,8 @@ HaveIds named ahead (channel ∷ channels) =
     HasId named ahead channel × HaveIds named (ahead ++ channel ∷ []) channels
 
 -- the channels of a file whose recordings name these, in their order
-pub record AreNumberedChannels (named : List RunChannel) (channels : List FileChannel) : Type 0 where
+pub record AreNumberedChannels (named : List RunChannel)
+    (channels : List FileChannel) : Type 0 where
   pub each : map owner channels ≡ each_once [] named
   pub ids : HaveIds named [] channels
 
@@ -76,6 +78,7 @@ NoIdIsFree named = (channels : List FileChannel) → ¬ AreNumberedChannels name
 -- ---- a table of IDs
 
 -- it has each ID, and says whether it is taken
-pub record AreTakenIds (taken : List Bool) (named : List RunChannel) (ahead : List FileChannel) : Type 0 where
+pub record AreTakenIds (taken : List Bool) (named : List RunChannel)
+    (ahead : List FileChannel) : Type 0 where
   pub whole : length taken ≡ 2 ^ 16
   pub said : (id : ℕ) → id < 2 ^ 16 → get_or taken id false ≡ is_taken_id named ahead id

@@ -5,4 +5,5 @@ use Rattle.ch11_channels.specs.declared.named.NamedIds.{NamedIds}
 
 -- those of a recording, as its run has them
 abbrev pub named_by_recording : NamedIds → List RunChannel
-named_by_recording recording = map (λ id. record { run = recording.run; channel = id }) recording.ids.now
+named_by_recording recording =
+    map (λ id. record { run = recording.run; channel = id }) recording.ids.now

@@ -51,7 +51,8 @@ fn next_id(taken: &[bool], channels: &[FileChannel], of: RunChannel) -> Option<u
 
 /// The channel ID of time packets: the least from 1 on that no channel of a file has.
 pub fn time_channel(channels: &[FileChannel]) -> Option<u16>
-    ensures { MatchOption result (AreAllTaken (is_id_of channels.now)) (IsLeastFree (is_id_of channels.now)) }
+    ensures { MatchOption result (AreAllTaken (is_id_of channels.now))
+        (IsLeastFree (is_id_of channels.now)) }
 {
     'ids: for id in 1..=u16::MAX {
         if !is_id(channels, id) {

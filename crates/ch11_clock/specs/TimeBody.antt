@@ -1,6 +1,7 @@
 -- The body of a time packet (IRIG 106-17 Chapter 11, Time Data Packets, Format 1): a
 -- channel-specific word, and a date and a time of day in binary coded decimal.
-use Rattle.std.specs.Prelude.{ℕ, ◌+◌, ◌*◌, ◌/◌, ◌%◌, ◌^◌, Bool, if◌then◌else◌, List, [], ◌∷◌, ◌++◌, pos}
+use Rattle.std.specs.Prelude.{ℕ, ◌+◌, ◌*◌, ◌/◌, ◌%◌, ◌^◌, Bool, if◌then◌else◌, List, [], ◌∷◌, ◌++◌}
+use Rattle.std.specs.Prelude.{pos}
 use Rattle.std.specs.Int.{w32, to_le_bytes}
 use Rattle.jiff_core.specs.Calendar.{is_leap_year}
 use Rattle.ch11_clock.specs.declared.civil.CivilTime.{CivilTime}

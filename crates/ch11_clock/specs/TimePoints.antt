@@ -2,7 +2,8 @@
 use Rattle.std.specs.Prelude.{ℕ, ◌<◌, ◌≤◌, ◌≡◌, ◌⊎◌, ◌↔◌, List, [], ◌∷◌, ℤ, pos, ◌+ℤ◌, ◌<ℤ◌, ◌≤ℤ◌}
 use Rattle.ch11_clock.specs.declared.origin.Origin.{Origin}
 use Rattle.ch11_clock.specs.Clock.{time_under, clock_time, AreAscending, rule_end}
-use Rattle.ch11_clock.specs.Moments.{nanos_of, IsTick, IsTickOf, HasTick, IsLastAt, IsFirstFrom, IsWholeSecond}
+use Rattle.ch11_clock.specs.Moments.{nanos_of, IsTick, IsTickOf, HasTick, IsLastAt, IsFirstFrom}
+use Rattle.ch11_clock.specs.Moments.{IsWholeSecond}
 use Rattle.ch11_clock.specs.Moments.{IsMoment}
 
 -- ---- the time packets of a recording

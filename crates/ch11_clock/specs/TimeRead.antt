@@ -1,5 +1,7 @@
--- How a reader takes the body of a time packet apart (IRIG 106-17 Chapter 11, Time Data Packets, Format 1).
-use Rattle.std.specs.Prelude.{ℕ, ◌+◌, ◌*◌, ◌/◌, ◌%◌, ◌≡◌, Bool, if◌then◌else◌, List, length, slice_index, pos}
+-- How a reader takes the body of a time packet apart (IRIG 106-17 Chapter 11, Time Data Packets,
+-- Format 1).
+use Rattle.std.specs.Prelude.{ℕ, ◌+◌, ◌*◌, ◌/◌, ◌%◌, ◌≡◌, Bool, if◌then◌else◌, List, length}
+use Rattle.std.specs.Prelude.{slice_index, pos}
 use Rattle.jiff_core.specs.Calendar.{is_leap_year}
 use Rattle.ch11_clock.specs.declared.civil.CivilTime.{CivilTime}
 
@@ -7,7 +9,8 @@ use Rattle.ch11_clock.specs.declared.civil.CivilTime.{CivilTime}
 abbrev pub two_digits_in : (byte : ℕ) → ℕ
 two_digits_in byte = byte / 16 * 10 + byte % 16
 
--- the time of day and the date behind the channel-specific word; the last two digits of the year stand first
+-- the time of day and the date behind the channel-specific word; the last two digits of the year
+-- stand first
 abbrev pub civil_time_in : List ℕ → CivilTime
 civil_time_in body = record {
   year = two_digits_in (slice_index body 11) * 100 + two_digits_in (slice_index body 10);
@@ -19,8 +22,8 @@ civil_time_in body = record {
   hundredth = two_digits_in (slice_index body 4);
 }
 
--- the body says this time: its word has the source in bits 0 to 3, the format 3 (real-time clock) in bits 4 to
--- 7, a leap year in bit 8, and the date format 1 (day, month and year) from bit 9 on
+-- the body says this time: its word has the source in bits 0 to 3, the format 3 (real-time clock)
+-- in bits 4 to 7, a leap year in bit 8, and the date format 1 (day, month and year) from bit 9 on
 pub record SaysCivilTime (body : List ℕ) (is_external : Bool) (time : CivilTime) : Type 0 where
   pub len : length body ≡ 12
   pub source : slice_index body 0 % 16 ≡ (if is_external then 1 else 0)

@@ -12,7 +12,7 @@ use Rattle.ch11_merge.specs.Merging.Merged.{OfTime, OfPiece}
 use Rattle.ch11_merge.specs.Kept.{AreNamedApart, TimesStandAhead, held_in, held_of}
 use Rattle.ch11_merge.proofs.Merged.{HasNo, kept, none_else}
 use Rattle.ch11_merge.proofs.TimesAhead.{times_ahead}
-use Rattle.ch11_merge.proofs.Places.{all_there}
+use Rattle.ch11_packet.proofs.ChangedLists.{all_there}
 use Rattle.ch11_file.specs.FileBlocks.{FileBlock, BlockContent, item_of, item_with, merged_in, merged_with}
 use Rattle.ch11_file.specs.FileBlocks.BlockContent.{SetupBlock, TimeBlock, PieceBlock, NodeBlock, RootBlock}
 use Rattle.ch11_file.specs.FileTimes.{IsNextTick}

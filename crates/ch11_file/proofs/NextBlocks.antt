@@ -18,7 +18,7 @@ use Rattle.ch11_merge.specs.declared.placed.NextPiece.{NextPiece}
 use Rattle.ch11_merge.specs.declared.placed.Placed.{Placed}
 use Rattle.ch11_merge.specs.declared.placed.Placed.TheVariants.{Time, Piece}
 use Rattle.ch11_merge.proofs.Merged.{has_head}
-use Rattle.ch11_merge.proofs.Places.{all_there}
+use Rattle.ch11_packet.proofs.ChangedLists.{all_there}
 use Rattle.ch11_file.specs.FileTimes.{IsNextTick, WalksTimes, tick_of}
 use Rattle.ch11_file.specs.declared.end.Refusal.TheVariants.{Gap}
 use Rattle.ch11_file.specs.WholeFile.{FileFacts, FileStage, MergeState, TimeIsDue, TimeGoesNext, PieceGoesNext, IsBehind, IsFarAhead, counter_of}

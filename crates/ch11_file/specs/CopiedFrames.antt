@@ -1,13 +1,14 @@
--- The body of a packet of frames that are copied (IRIG 106-17 Chapter 11, Ethernet Data Packets, Format
--- 0, in this project's profile): each as it was read, with zeros where a reader takes any value.
+-- The body of a packet of frames that are copied (IRIG 106-17 Chapter 11, Ethernet Data Packets,
+-- Format 0, in this project's profile): each as it was read, with zeros where a reader takes any
+-- value.
 use Rattle.std.specs.Prelude.{ℕ, List, ◌∷◌, ◌++◌, length}
 use Rattle.std.specs.Int.{w32, to_le_bytes, bytes_low_first}
 use Rattle.std.specs.List.{flat_map}
 use Rattle.ch11_packet.specs.Frames.{frame_filler}
 use Rattle.ch11_packet.specs.FramesRead.{ReadFrameData, read_word}
 
--- the 12 bytes before a frame's bytes: its counter in 6, two zero bytes, and its word, in which bits 14
--- and 15 are zero
+-- the 12 bytes before a frame's bytes: its counter in 6, two zero bytes, and its word, in which
+-- bits 14 and 15 are zero
 abbrev pub copied_header : ReadFrameData → List ℕ
 copied_header frame =
     bytes_low_first 0 6 frame.counter ++ (0 ∷ 0 ∷ to_le_bytes w32 (read_word frame 0))

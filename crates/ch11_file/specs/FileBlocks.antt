@@ -1,5 +1,5 @@
--- The packets of a whole Chapter 11 file, and their bytes (IRIG 106-17 Chapter 11: packet header, packet
--- trailer, computer-generated data, time data, Ethernet data).
+-- The packets of a whole Chapter 11 file, and their bytes (IRIG 106-17 Chapter 11: packet header,
+-- packet trailer, computer-generated data, time data, Ethernet data).
 use Rattle.std.specs.Prelude.{ℕ, ◌==◌, Bool, List, [], ◌∷◌, ◌++◌, length, count_by}
 use Rattle.std.specs.Int.{w32, to_le_bytes}
 use Rattle.std.specs.List.{flat_map}
@@ -25,7 +25,8 @@ use Rattle.ch11_file.specs.CopiedFrames.{frames_body}
 
 -- ---- what they hold
 
--- the setup record's text, a date and a time of day, a piece of a channel, a node of the index, or a root
+-- the setup record's text, a date and a time of day, a piece of a channel, a node of the index, or
+-- a root
 pub data BlockContent : Type 0 where
   SetupBlock : (text : List ℕ) → BlockContent
   TimeBlock : (is_external : Bool) → CivilTime → BlockContent
@@ -33,8 +34,8 @@ pub data BlockContent : Type 0 where
   NodeBlock : List NodeEntry → BlockContent
   RootBlock : (nodes : List RootEntry) → (last : RootEntry) → BlockContent
 
--- a packet of the file: the channel ID, the sequence number and the counter of its header, and what it
--- holds
+-- a packet of the file: the channel ID, the sequence number and the counter of its header, and what
+-- it holds
 pub record FileBlock : Type 0 where
   pub channel : ℕ
   pub sequence : ℕ
@@ -51,8 +52,8 @@ kind_of (PieceBlock channel (OfRecord place counter body)) = Record
 kind_of (NodeBlock entries) = Index
 kind_of (RootBlock nodes last) = Index
 
--- the data type of a kind: computer-generated data of formats 1, 0 and 3, time data of format 1, and Ethernet
--- data of format 0
+-- the data type of a kind: computer-generated data of formats 1, 0 and 3, time data of format 1,
+-- and Ethernet data of format 0
 abbrev pub data_type : BlockKind → ℕ
 data_type Setup = 1
 data_type Time = 17
@@ -60,7 +61,8 @@ data_type Frames = 104
 data_type Record = 0
 data_type Index = 3
 
--- the body: a setup record begins with a word that says its edition, RCC 106-17, and its form, ASCII
+-- the body: a setup record begins with a word that says its edition, RCC 106-17, and its form,
+-- ASCII
 abbrev pub block_body : BlockContent → List ℕ
 block_body (SetupBlock text) = to_le_bytes w32 12 ++ text
 block_body (TimeBlock is_external time) = time_bytes is_external time

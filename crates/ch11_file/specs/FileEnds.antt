@@ -4,7 +4,8 @@ use Rattle.std.specs.Io.KnownBytes.{Appends}
 use Rattle.ch11_clock.specs.declared.civil.CivilTime.{CivilTime}
 use Rattle.ch11_clock.specs.CivilTime.{IsTimeOf}
 use Rattle.ch11_clock.specs.TimePoints.{IsTimePoint}
-use Rattle.ch11_merge.specs.Merging.{FilePiece, ChannelLeft, StandsFirst, head_of, place_of, IsNextAt, PieceIsNext}
+use Rattle.ch11_merge.specs.Merging.{FilePiece, ChannelLeft, StandsFirst, head_of, place_of}
+use Rattle.ch11_merge.specs.Merging.{IsNextAt, PieceIsNext}
 use Rattle.ch11_file.specs.declared.counts.FileCounts.{FileCounts}
 use Rattle.ch11_file.specs.declared.end.Refusal.{Refusal}
 use Rattle.ch11_file.specs.declared.end.Refusal.TheVariants.{Disorder, Gap, Origin, Year}
@@ -12,7 +13,8 @@ use Rattle.ch11_file.specs.declared.end.FileEnd.{FileEnd}
 use Rattle.ch11_file.specs.declared.end.FileEnd.TheVariants.{Refused, Pieces, Write}
 use Rattle.ch11_file.specs.FileBlocks.{FileBlock, file_bytes, blocks_of}
 use Rattle.ch11_file.specs.FileTimes.{HasNoTime, IsFirstTime}
-use Rattle.ch11_file.specs.WholeFile.{FileFacts, MergeState, FileState, BeginsFile, IsWholeFile, TimeIsDue, IsBehind, IsFarAhead, counter_of}
+use Rattle.ch11_file.specs.WholeFile.{FileFacts, MergeState, FileState, BeginsFile, IsWholeFile}
+use Rattle.ch11_file.specs.WholeFile.{TimeIsDue, IsBehind, IsFarAhead, counter_of}
 use Rattle.ch11_file.specs.WholeFile.FileStage.{Merging}
 
 -- ---- what went out
@@ -36,7 +38,8 @@ pub record HoldsFront (facts : FileFacts) (before held : Option (List ℕ)) : Ty
   pub grows : Appends before held (take len (file_bytes blocks))
 
 -- the output grew by a whole file, of which these are the counts
-pub record HoldsFile (facts : FileFacts) (before held : Option (List ℕ)) (counts : FileCounts) : Type 0 where
+pub record HoldsFile (facts : FileFacts) (before held : Option (List ℕ))
+    (counts : FileCounts) : Type 0 where
   pub blocks : List FileBlock
   pub whole : IsWholeFile facts blocks
   pub grows : Appends before held (file_bytes blocks)
@@ -96,15 +99,17 @@ pub record FirstHasNoDate (facts : FileFacts) (before held : Option (List ℕ)) 
 -- a refusal is true
 abbrev pub IsRefused : FileFacts → (before held : Option (List ℕ)) → Refusal → Type 0
 IsRefused facts before held (Disorder at) =
-    HoldsUpTo facts before held (λ greatest merge. (merge.stage ≡ Merging) × IsDisorder greatest merge at)
+    HoldsUpTo facts before held (λ greatest merge. (merge.stage ≡ Merging)
+    × IsDisorder greatest merge at)
 IsRefused facts before held (Gap at) =
-    HoldsUpTo facts before held (λ greatest merge. (merge.stage ≡ Merging) × IsGap greatest merge at)
+    HoldsUpTo facts before held (λ greatest merge. (merge.stage ≡ Merging)
+    × IsGap greatest merge at)
 IsRefused facts before held Origin = HasNoTime facts.least facts.rules × Appends before held []
 IsRefused facts before held Year =
     FirstHasNoDate facts before held ⊎ HoldsUpTo facts before held (IsYear facts)
 
--- why a file ended early: a refusal is true; else what went out begins a file, where a source failed
--- without a part of a packet, and where no piece is refused as a gap
+-- why a file ended early: a refusal is true; else what went out begins a file, where a source
+-- failed without a part of a packet, and where no piece is refused as a gap
 abbrev pub FileFails : FileFacts → (before held : Option (List ℕ)) → FileEnd → Type 0
 FileFails facts before held (Refused refusal) = IsRefused facts before held refusal
 FileFails facts before held (Pieces fault) = HoldsUpTo facts before held HasNoGap

@@ -15,7 +15,8 @@ HasNoTime least rules = (moment : ℤ) (tick : ℕ) → ¬ IsTimePoint least rul
 
 -- none has a greater tick than this
 abbrev pub HasNoTimeBehind : (least : ℕ) → List Origin → (tick : ℕ) → Type 0
-HasNoTimeBehind least rules tick = (moment : ℤ) (its : ℕ) → IsTimePoint least rules moment its → its ≤ tick
+HasNoTimeBehind least rules tick =
+    (moment : ℤ) (its : ℕ) → IsTimePoint least rules moment its → its ≤ tick
 
 -- this is the least tick behind another
 pub record IsTickBehind (least : ℕ) (rules : List Origin) (tick next : ℕ) : Type 0 where
@@ -24,7 +25,8 @@ pub record IsTickBehind (least : ℕ) (rules : List Origin) (tick next : ℕ) : 
   pub behind : tick < next
   pub first : (other : ℤ) (its : ℕ) → IsTimePoint least rules other its → tick < its → next ≤ its
 
--- the tick of the time packet behind that of a tick: where there is none, 2^48, which no counter reaches
+-- the tick of the time packet behind that of a tick: where there is none, 2^48, which no counter
+-- reaches
 abbrev pub IsNextTick : (least : ℕ) → List Origin → (tick next : ℕ) → Type 0
 IsNextTick least rules tick next =
     IsTickBehind least rules tick next

@@ -1,4 +1,4 @@
--- What a reader finds in a whole file.
+-- What the packets of a whole file say, which a reader finds there.
 use Rattle.std.specs.Prelude.{ℕ, ◌+◌, ◌%◌, ◌≡◌, ◌≤◌, max, List, [], ◌∷◌, ◌++◌, length, ℤ}
 use Rattle.std.specs.List.{AllByRecursion}
 use Rattle.ch11_packet.specs.Header.{IsHeader, header_bytes}
@@ -15,14 +15,17 @@ use Rattle.ch11_merge.specs.Merging.FilePiece.{OfFrames, OfRecord}
 use Rattle.ch11_merge.specs.Merging.Merged.{OfTime, OfPiece}
 use Rattle.ch11_file.specs.declared.limits.TheConstants.{MAX_TICKS_BACK}
 use Rattle.ch11_file.specs.declared.kind.BlockKind.TheVariants.{Setup, Time}
-use Rattle.ch11_file.specs.FileBlocks.{FileBlock, BlockContent, block_packet, block_header, kind_of, blocks_on}
-use Rattle.ch11_file.specs.FileBlocks.BlockContent.{SetupBlock, TimeBlock, PieceBlock, NodeBlock, RootBlock}
+use Rattle.ch11_file.specs.FileBlocks.{FileBlock, BlockContent, block_packet, block_header, kind_of}
+use Rattle.ch11_file.specs.FileBlocks.{blocks_on}
+use Rattle.ch11_file.specs.FileBlocks.BlockContent.{SetupBlock, TimeBlock, PieceBlock, NodeBlock}
+use Rattle.ch11_file.specs.FileBlocks.BlockContent.{RootBlock}
 use Rattle.ch11_file.specs.FileTimes.{IsFirstTime}
 use Rattle.ch11_file.specs.WholeFile.{FileFacts, setup_text}
 
 -- ---- form
 
--- a packet has a valid header, which says its length, and behind that its body with a right data checksum
+-- a packet has a valid header, which says its length, and behind that its body with a right data
+-- checksum
 pub record IsValidPacket (b : FileBlock) : Type 0 where
   pub header : IsHeader (block_header b)
   pub len : length (block_packet b) ≡ (block_header b).packet_len
@@ -74,7 +77,8 @@ pub record TimeStandsSecond (blocks : List FileBlock) : Type 0 where
 
 -- ---- times
 
--- what a time packet tells isn't later than the clock's time of its counter, and less than 100 ns earlier
+-- what a time packet tells isn't later than the clock's time of its counter, and less than 100 ns
+-- earlier
 abbrev pub TellsClock : List Origin → BlockContent → (counter : ℕ) → Type 0
 TellsClock rules (SetupBlock text) counter = Unit {0}
 TellsClock rules (TimeBlock is_external time) counter =
@@ -83,8 +87,8 @@ TellsClock rules (PieceBlock channel piece) counter = Unit {0}
 TellsClock rules (NodeBlock entries) counter = Unit {0}
 TellsClock rules (RootBlock nodes last) counter = Unit {0}
 
--- what a channel has behind a time packet doesn't lie before its tick, but for the first time packet, which
--- stands ahead of all
+-- what a channel has behind a time packet doesn't lie before its tick, but for the first time
+-- packet, which stands ahead of all
 abbrev pub LieBehindFurtherTimes : (channel : ℕ) → List Merged → Type 0
 LieBehindFurtherTimes channel [] = ⊥
 LieBehindFurtherTimes channel (OfTime tick ∷ out) = LieBehindTimes channel out
@@ -117,7 +121,8 @@ last_time tick (RootBlock nodes last) counter = tick
 abbrev pub LieNearTimes : List Origin → (tick : ℕ) → List FileBlock → Type 0
 LieNearTimes rules tick [] = Unit {0}
 LieNearTimes rules tick (b ∷ blocks) =
-    IsNear rules (last_time tick b.content b.counter) b.counter × ContentLiesNear rules tick b.content
+    IsNear rules (last_time tick b.content b.counter) b.counter
+    × ContentLiesNear rules tick b.content
     × LieNearTimes rules (last_time tick b.content b.counter) blocks
 
 -- the setup record has the tick of the first time packet

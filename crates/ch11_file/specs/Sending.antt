@@ -1,5 +1,6 @@
 -- What a file's packets are while they go out, as the code keeps it.
-use Rattle.std.specs.Prelude.{ℕ, ◌+◌, ◌%◌, ◌^◌, ◌<◌, ◌≤◌, ◌≡◌, Bool, true, false, List, Option, length, take, slice_index, slice_set}
+use Rattle.std.specs.Prelude.{ℕ, ◌+◌, ◌%◌, ◌^◌, ◌<◌, ◌≤◌, ◌≡◌, Bool, true, false, List, Option}
+use Rattle.std.specs.Prelude.{length, take, slice_index, slice_set}
 use Rattle.std.specs.Io.KnownBytes.{Appends}
 use Rattle.ch11_packet.specs.Header.{IsHeader}
 use Rattle.ch11_packet.specs.Packet.{packet_bytes}
@@ -17,9 +18,11 @@ use Rattle.ch11_file.specs.declared.counts.FileCounts.{FileCounts}
 use Rattle.ch11_file.specs.declared.kind.BlockKind.{BlockKind}
 use Rattle.ch11_file.specs.declared.kind.BlockKind.TheVariants.{Setup, Time, Frames, Record, Index}
 use Rattle.ch11_file.specs.declared.setup.FileSetup.{FileSetup}
-use Rattle.ch11_file.specs.FileBlocks.{FileBlock, BlockContent, block_body, data_type, file_bytes, head_with, kind_of, blocks_on}
+use Rattle.ch11_file.specs.FileBlocks.{FileBlock, BlockContent, block_body, data_type, file_bytes}
+use Rattle.ch11_file.specs.FileBlocks.{head_with, kind_of, blocks_on}
 use Rattle.ch11_file.specs.FileTimes.{WalksTimes, tick_of}
-use Rattle.ch11_file.specs.WholeFile.{FileFacts, MergeState, BeginsFile, block_channel, file_state, merge_state}
+use Rattle.ch11_file.specs.WholeFile.{FileFacts, MergeState, BeginsFile, block_channel, file_state}
+use Rattle.ch11_file.specs.WholeFile.{merge_state}
 use Rattle.ch11_file.specs.WholeFile.FileStage.{Merging}
 use Rattle.ch11_file.specs.FileEnds.{counts_of}
 
@@ -50,7 +53,8 @@ pub record CountsFit (counts : FileCounts) (index : IndexState) : Type 0 where
 -- the next number of each channel is that of its packets, modulo 256
 pub record AreNextNumbers (numbers : List ℕ) (blocks : List FileBlock) : Type 0 where
   pub len : length numbers ≡ 2 ^ 16
-  pub each : (channel : ℕ) → channel < 2 ^ 16 → slice_index numbers channel ≡ blocks_on channel blocks % 256
+  pub each : (channel : ℕ) → channel < 2 ^ 16
+      → slice_index numbers channel ≡ blocks_on channel blocks % 256
 
 -- the output grew by packets that begin a file, and this is known of them
 pub record HasSent (facts : FileFacts) (before held : Option (List ℕ)) (sent : SentState)
@@ -85,7 +89,8 @@ pub record IsContent (setup : FileSetup) (content : BlockContent) (kind : BlockK
 -- its bytes, with the next number of its channel
 abbrev pub bytes_with : SentState → BlockKind → (channel counter : ℕ) → (body : List ℕ) → List ℕ
 bytes_with sent kind channel counter body =
-    packet_bytes WithSum (head_with channel (slice_index sent.numbers channel) counter kind body) body
+    packet_bytes WithSum
+    (head_with channel (slice_index sent.numbers channel) counter kind body) body
 
 abbrev pub HasValidHeader : SentState → BlockKind → (channel counter : ℕ) → (body : List ℕ) → Type 0
 HasValidHeader sent kind channel counter body =
@@ -99,7 +104,8 @@ pub record WritesWhole (old : SentState) (kind : BlockKind) (channel counter : �
   pub len_is : len ≡ written_len WithSum (length body)
   pub room : old.index.place + len < 2 ^ 64
   pub new_is : new ≡ sent_state
-      (slice_set old.numbers channel ((slice_index old.numbers channel + 1) % 256)) old.index old.counts
+      (slice_set old.numbers channel
+      ((slice_index old.numbers channel + 1) % 256)) old.index old.counts
 
 -- a part of it went out, or nothing
 pub record WritesPart (old : SentState) (kind : BlockKind) (channel counter : ℕ) (body : List ℕ)
@@ -130,7 +136,8 @@ pub record IndexGrows (old new : IndexState) : Type 0 where
 
 -- packets that begin a file went out, and these sources say what is left
 pub record HasPlaced {S : Type 0} (left_of : S → Option (List FilePiece)) (facts : FileFacts)
-    (before held : Option (List ℕ)) (sent : SentState) (next : Option TimePoint) (points : PointsLeft)
+    (before held : Option (List ℕ)) (sent : SentState) (next : Option TimePoint)
+    (points : PointsLeft)
     (channels : List (MergedChannel S)) : Type 0 where
   pub left : List ChannelLeft
   pub said : SayLeft left_of channels left
@@ -138,7 +145,8 @@ pub record HasPlaced {S : Type 0} (left_of : S → Option (List FilePiece)) (fac
   pub has_sent : HasSent facts before held sent (merge_state Merging (tick_of next) left)
 
 -- nothing is left
-pub record HasMerged (facts : FileFacts) (before held : Option (List ℕ)) (sent : SentState) : Type 0 where
+pub record HasMerged (facts : FileFacts) (before held : Option (List ℕ))
+    (sent : SentState) : Type 0 where
   pub tick : ℕ
   pub left : List ChannelLeft
   pub none : NothingLeft left

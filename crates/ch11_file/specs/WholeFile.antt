@@ -1,5 +1,7 @@
--- Which packets a whole Chapter 11 file has, in order: what may go out next, and what is left behind it.
-use Rattle.std.specs.Prelude.{ℕ, ◌+◌, ◌%◌, ◌<◌, ◌≤◌, ◌≡◌, ◌⊎◌, Bool, List, [], ◌∷◌, ◌++◌, ℤ, None, Some}
+-- Which packets a whole Chapter 11 file has, in order: what may go out next, and what is left
+-- behind it.
+use Rattle.std.specs.Prelude.{ℕ, ◌+◌, ◌%◌, ◌<◌, ◌≤◌, ◌≡◌, ◌⊎◌, Bool, List, [], ◌∷◌, ◌++◌, ℤ, None}
+use Rattle.std.specs.Prelude.{Some}
 use Rattle.ch11_index.specs.declared.entry.NodeEntry.{NodeEntry}
 use Rattle.ch11_index.specs.declared.entry.RootEntry.{RootEntry}
 use Rattle.ch11_packet.specs.Header.{IsHeader}
@@ -12,22 +14,27 @@ use Rattle.ch11_setup.specs.Attributes.{attributes_text}
 use Rattle.ch11_setup.specs.Setups.{setup_attributes}
 use Rattle.ch11_index.specs.declared.index.IndexPacket.{IndexPacket}
 use Rattle.ch11_index.specs.declared.index.IndexPacket.TheVariants.{Node, Root}
-use Rattle.ch11_index.specs.FileIndex.{IndexState, empty_index, after_packet, after_node, after_root, last_entry, due, due_at_end}
+use Rattle.ch11_index.specs.FileIndex.{IndexState, empty_index, after_packet, after_node}
+use Rattle.ch11_index.specs.FileIndex.{after_root, last_entry, due, due_at_end}
 use Rattle.ch11_merge.specs.declared.source.Head.{Head}
 use Rattle.ch11_merge.specs.declared.source.Head.TheVariants.{At, Uncounted, End}
-use Rattle.ch11_merge.specs.Merging.{FilePiece, ChannelLeft, head_of, head_of_piece, TimeIsNext, PieceIsNext, NothingLeft}
+use Rattle.ch11_merge.specs.Merging.{FilePiece, ChannelLeft, head_of, head_of_piece, TimeIsNext}
+use Rattle.ch11_merge.specs.Merging.{PieceIsNext, NothingLeft}
 use Rattle.ch11_merge.specs.Merging.FilePiece.{OfFrames, OfRecord}
-use Rattle.ch11_file.specs.declared.limits.TheConstants.{MAX_TICKS_BACK, MAX_TICKS_AHEAD, MAX_SETUP_LEN}
+use Rattle.ch11_file.specs.declared.limits.TheConstants.{MAX_TICKS_BACK, MAX_TICKS_AHEAD}
+use Rattle.ch11_file.specs.declared.limits.TheConstants.{MAX_SETUP_LEN}
 use Rattle.ch11_file.specs.declared.kind.BlockKind.TheVariants.{Setup as SetupKind}
 use Rattle.ch11_file.specs.declared.setup.FileSetup.{FileSetup}
-use Rattle.ch11_file.specs.FileBlocks.{BlockContent, FileBlock, kind_of, block_header, block_len, named_of, blocks_on}
-use Rattle.ch11_file.specs.FileBlocks.BlockContent.{SetupBlock, TimeBlock, PieceBlock, NodeBlock, RootBlock}
+use Rattle.ch11_file.specs.FileBlocks.{BlockContent, FileBlock, kind_of, block_header, block_len}
+use Rattle.ch11_file.specs.FileBlocks.{named_of, blocks_on}
+use Rattle.ch11_file.specs.FileBlocks.BlockContent.{SetupBlock, TimeBlock, PieceBlock, NodeBlock}
+use Rattle.ch11_file.specs.FileBlocks.BlockContent.{RootBlock}
 use Rattle.ch11_file.specs.FileTimes.{IsFirstTime, IsNextTick}
 
 -- ---- what a file is made of
 
--- what its setup record says, its clock, the least counter, how many an index packet names at most, and
--- the pieces of its channels
+-- what its setup record says, its clock, the least counter, how many an index packet names at most,
+-- and the pieces of its channels
 pub record FileFacts : Type 0 where
   pub setup : FileSetup
   pub rules : List Origin
@@ -72,7 +79,8 @@ block_channel setup (RootBlock nodes last) = 0
 
 -- ---- counters
 
--- the counter of a piece's packet: its own, or where it has none the greatest of a header that went out
+-- the counter of a piece's packet: its own, or where it has none the greatest of a header that went
+-- out
 abbrev pub counter_at : (greatest : ℕ) → Head → ℕ
 counter_at greatest (At counter) = counter
 counter_at greatest Uncounted = greatest
@@ -91,7 +99,8 @@ IsFarAhead greatest head = greatest + MAX_TICKS_AHEAD < counter_at greatest head
 
 -- ---- what goes out next, but for the index
 
--- how far a file has come: its setup record stands first, then the first time packet, then all others
+-- how far a file has come: its setup record stands first, then the first time packet, then all
+-- others
 pub data FileStage : Type 0 where
   BeforeSetup : FileStage
   BeforeTime : FileStage
@@ -118,8 +127,8 @@ pub record SetupGoesNext (facts : FileFacts) (old : MergeState) (text : List ℕ
   pub text_is : text ≡ setup_text facts.setup time
   pub new_is : new ≡ merge_state BeforeTime old.tick old.left
 
--- behind the setup record the first time packet goes out, and then each that is due ahead of the next
--- piece, which isn't too far ahead
+-- behind the setup record the first time packet goes out, and then each that is due ahead of the
+-- next piece, which isn't too far ahead
 abbrev pub TimeIsDue : (greatest : ℕ) → FileStage → (tick : ℕ) → List ChannelLeft → Type 0
 TimeIsDue greatest BeforeSetup tick left = ⊥
 TimeIsDue greatest BeforeTime tick left = Unit {0}
@@ -151,7 +160,8 @@ pub record PieceGoesNext (greatest : ℕ) (old : MergeState) (channel : ℕ) (pi
 
 abbrev pub ContentGoesNext : FileFacts → (greatest : ℕ) → (old : MergeState) → BlockContent
     → (counter : ℕ) → (new : MergeState) → Type 0
-ContentGoesNext facts greatest old (SetupBlock text) counter new = SetupGoesNext facts old text counter new
+ContentGoesNext facts greatest old (SetupBlock text) counter new =
+    SetupGoesNext facts old text counter new
 ContentGoesNext facts greatest old (TimeBlock is_external time) counter new =
     TimeGoesNext facts greatest old is_external time counter new
 ContentGoesNext facts greatest old (PieceBlock channel piece) counter new =
@@ -180,20 +190,23 @@ IndexIsDue packet index merge =
     (due index ≡ Some packet) ⊎ (IsMerged merge × (due_at_end index ≡ Some packet))
 
 -- any other packet goes out where none of the index is due
-pub record NamedGoesNext (facts : FileFacts) (old : FileState) (content : BlockContent) (b : FileBlock)
+pub record NamedGoesNext (facts : FileFacts) (old : FileState) (content : BlockContent)
+    (b : FileBlock)
     (new : FileState) : Type 0 where
   pub none_due : due old.index ≡ None
   pub goes : ContentGoesNext facts old.index.greatest old.merge content b.counter new.merge
   pub index_is : new.index ≡ after_packet old.index (named_of b)
 
-pub record NodeGoesNext (old : FileState) (entries : List NodeEntry) (b : FileBlock) (new : FileState)
+pub record NodeGoesNext (old : FileState) (entries : List NodeEntry) (b : FileBlock)
+    (new : FileState)
     : Type 0 where
   pub is_due : IndexIsDue Node old.index old.merge
   pub entries_are : entries ≡ old.index.packets
   pub counter_is : b.counter ≡ old.index.greatest
   pub new_is : new ≡ file_state (after_node old.index (block_len b)) old.merge
 
-pub record RootGoesNext (old : FileState) (nodes : List RootEntry) (last : RootEntry) (b : FileBlock)
+pub record RootGoesNext (old : FileState) (nodes : List RootEntry) (last : RootEntry)
+    (b : FileBlock)
     (new : FileState) : Type 0 where
   pub is_due : IndexIsDue Root old.index old.merge
   pub nodes_are : nodes ≡ old.index.nodes
@@ -201,7 +214,8 @@ pub record RootGoesNext (old : FileState) (nodes : List RootEntry) (last : RootE
   pub counter_is : b.counter ≡ old.index.greatest
   pub new_is : new ≡ file_state (after_root old.index (block_len b)) old.merge
 
-abbrev pub BlockGoesNext : FileFacts → (old : FileState) → BlockContent → FileBlock → (new : FileState) → Type 0
+abbrev pub BlockGoesNext : FileFacts → (old : FileState) → BlockContent → FileBlock
+    → (new : FileState) → Type 0
 BlockGoesNext facts old (SetupBlock text) b new =
     NamedGoesNext facts old (SetupBlock text) b new
 BlockGoesNext facts old (TimeBlock is_external time) b new =
@@ -211,8 +225,10 @@ BlockGoesNext facts old (PieceBlock channel piece) b new =
 BlockGoesNext facts old (NodeBlock entries) b new = NodeGoesNext old entries b new
 BlockGoesNext facts old (RootBlock nodes last) b new = RootGoesNext old nodes last b new
 
--- this packet goes out next, with a valid header on its channel; that of a setup record isn't too long
-pub record GoesNext (facts : FileFacts) (old : FileState) (b : FileBlock) (new : FileState) : Type 0 where
+-- this packet goes out next, with a valid header on its channel; that of a setup record isn't too
+-- long
+pub record GoesNext (facts : FileFacts) (old : FileState) (b : FileBlock)
+    (new : FileState) : Type 0 where
   pub channel : b.channel ≡ block_channel facts.setup b.content
   pub header : IsHeader (block_header b)
   pub setup_fits : kind_of b.content ≡ SetupKind → block_len b ≤ MAX_SETUP_LEN

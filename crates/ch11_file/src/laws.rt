@@ -43,7 +43,8 @@ pub fn packets_of_pieces_are_read_back()
         → SpellsBody frames (block_body (PieceBlock channel (OfFrames place frames))) }
     ensures record { (channel place : ℕ) (counter : Option ℕ) (body : List ℕ)
         → block_body (PieceBlock channel (OfRecord place counter body)) ≡ body }
-    ensures types { (data_type Frames ≡ ETHERNET_DATA) × (data_type Record ≡ COMPUTER_GENERATED_DATA) }
+    ensures types { (data_type Frames ≡ ETHERNET_DATA)
+        × (data_type Record ≡ COMPUTER_GENERATED_DATA) }
 {}
 
 /// Law: a single frame fits its packet, and so does a further one that goes on with a piece, behind the
@@ -87,7 +88,8 @@ pub fn a_whole_file_keeps_each_channel()
 
 /// Law: a whole file holds nothing of any other channel.
 pub fn a_whole_file_has_no_other_channel()
-    ensures { (facts : FileFacts) (blocks : List FileBlock) → IsWholeFile facts blocks → (channel : ℕ)
+    ensures { (facts : FileFacts) (blocks : List FileBlock) → IsWholeFile facts blocks
+        → (channel : ℕ)
         → ((at : ℕ) (c : ChannelLeft) → slice_get facts.channels at ≡ Some c → c.channel ≢ channel)
         → held_of channel (merged_in blocks) ≡ [] }
 {}
@@ -123,7 +125,8 @@ pub fn a_whole_file_is_well_formed()
     ensures packets { (facts : FileFacts) (blocks : List FileBlock) → IsWholeFile facts blocks
         → AllByRecursion IsValidPacket blocks }
     ensures setup { (facts : FileFacts) (blocks : List FileBlock) → IsWholeFile facts blocks
-        → AllByRecursion (λ (b : FileBlock). kind_of b.content ≡ Setup → block_len b ≤ MAX_SETUP_LEN)
+        → AllByRecursion (λ (b : FileBlock). kind_of b.content ≡ Setup
+        → block_len b ≤ MAX_SETUP_LEN)
         blocks }
     ensures first { (facts : FileFacts) (blocks : List FileBlock) → IsWholeFile facts blocks
         → BeginAtZero blocks }

@@ -79,7 +79,8 @@ pub fn piece_head(channel: u16, piece: &OwnedPiece, greatest: u64) -> BlockHead
 
 /// The body of a piece's packet.
 pub fn piece_body(piece: &OwnedPiece) -> &[u8]
-    ensures body { (channel : ℕ) → result.now ≡ block_body (PieceBlock channel (owned_data piece.now)) }
+    ensures body { (channel : ℕ)
+        → result.now ≡ block_body (PieceBlock channel (owned_data piece.now)) }
     ensures fits { written_len WithSum (length result.now) < 2 ^ 32 }
     ensures frames { (channel : ℕ) → kind_of (PieceBlock channel (owned_data piece.now)) ≡ Frames
         → written_len WithSum (length result.now) ≤ MAX_ETHERNET_PACKET_LEN }

@@ -1,5 +1,6 @@
 -- Where the packets of an index stand in a file, and what they name.
-use Rattle.std.specs.Prelude.{ℕ, ◌+◌, ◌≡◌, ◌⊎◌, nat_eq, max, if◌then◌else◌, List, [], ◌∷◌, ◌++◌, length, Option, None, Some, unwrap_or}
+use Rattle.std.specs.Prelude.{ℕ, ◌+◌, ◌≡◌, ◌⊎◌, nat_eq, max, if◌then◌else◌, List, [], ◌∷◌, ◌++◌}
+use Rattle.std.specs.Prelude.{length, Option, None, Some, unwrap_or}
 use Rattle.ch11_index.specs.declared.entry.NodeEntry.{NodeEntry}
 use Rattle.ch11_index.specs.declared.entry.RootEntry.{RootEntry}
 use Rattle.ch11_index.specs.declared.index.FilePacket.{FilePacket}
@@ -9,8 +10,8 @@ use Rattle.ch11_index.specs.IndexBytes.{node_bytes, root_bytes}
 
 -- ---- what went out
 
--- how many are named at most, the packets that no node names yet, the nodes that no root names yet, the
--- last root, the greatest counter of a header, and the number of bytes
+-- how many are named at most, the packets that no node names yet, the nodes that no root names yet,
+-- the last root, the greatest counter of a header, and the number of bytes
 pub record IndexState : Type 0 where
   pub most : ℕ
   pub packets : List NodeEntry

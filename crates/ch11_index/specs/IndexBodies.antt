@@ -1,13 +1,15 @@
--- How a reader takes the bodies of index packets apart (IRIG 106-17 Chapter 11, computer-generated data,
--- recording index).
-use Rattle.std.specs.Prelude.{ℕ, ◌+◌, ◌^◌, ◌≡◌, ◌≤◌, ◌<◌, List, [], ◌∷◌, ◌++◌, length, take, drop, slice_index}
+-- How a reader takes the bodies of index packets apart (IRIG 106-17 Chapter 11, computer-generated
+-- data, recording index).
+use Rattle.std.specs.Prelude.{ℕ, ◌+◌, ◌^◌, ◌≡◌, ◌≤◌, ◌<◌, List, [], ◌∷◌, ◌++◌, length, take, drop}
+use Rattle.std.specs.Prelude.{slice_index}
 use Rattle.std.specs.Int.{w16, w32, w64, from_le_bytes}
 use Rattle.ch11_index.specs.declared.entry.NodeEntry.{NodeEntry}
 use Rattle.ch11_index.specs.declared.entry.RootEntry.{RootEntry}
 
 -- ---- entries
 
--- an entry of a node: its counter, its channel and its data type, and behind a byte of any value its place
+-- an entry of a node: its counter, its channel and its data type, and behind a byte of any value
+-- its place
 abbrev pub node_entry_in : List ℕ → NodeEntry
 node_entry_in bytes = record {
   counter = from_le_bytes w64 (take 8 bytes);
@@ -32,13 +34,15 @@ HoldsEntries size entry_in bytes (entry ∷ entries) =
 
 -- ---- bodies
 
--- the body of a node: bit 31 of its word is set, the others are the number of its entries, which follow
+-- the body of a node: bit 31 of its word is set, the others are the number of its entries, which
+-- follow
 pub record HoldsNode (body : List ℕ) (entries : List NodeEntry) : Type 0 where
   pub word : from_le_bytes w32 (take 4 body) ≡ 2 ^ 31 + length entries
   pub few : length entries < 2 ^ 31
   pub each : HoldsEntries 20 node_entry_in (drop 4 body) entries
 
--- the body of a root: bit 31 of its word isn't set; its last entry, which leads to another root, is counted too
+-- the body of a root: bit 31 of its word isn't set; its last entry, which leads to another root, is
+-- counted too
 pub record HoldsRoot (body : List ℕ) (nodes : List RootEntry) (last : RootEntry) : Type 0 where
   pub word : from_le_bytes w32 (take 4 body) ≡ length nodes + 1
   pub few : length nodes + 1 < 2 ^ 31

@@ -1,5 +1,5 @@
--- The bodies of index packets (IRIG 106-17 Chapter 11, computer-generated data, recording index), with
--- the lowest byte of each number first.
+-- The bodies of index packets (IRIG 106-17 Chapter 11, computer-generated data, recording index),
+-- with the lowest byte of each number first.
 use Rattle.std.specs.Prelude.{ℕ, ◌+◌, ◌^◌, List, [], ◌∷◌, ◌++◌, length}
 use Rattle.std.specs.Int.{w16, w32, w64, to_le_bytes}
 use Rattle.std.specs.List.{flat_map}
@@ -21,8 +21,8 @@ abbrev pub node_bytes : List NodeEntry → List ℕ
 node_bytes entries =
     to_le_bytes w32 (2 ^ 31 + length entries) ++ flat_map node_entry_bytes entries
 
--- the body of a root: a word with the number of its entries, those of nodes, and a last one, which is
--- counted too
+-- the body of a root: a word with the number of its entries, those of nodes, and a last one, which
+-- is counted too
 abbrev pub root_bytes : (nodes : List RootEntry) → (last : RootEntry) → List ℕ
 root_bytes nodes last =
     to_le_bytes w32 (length nodes + 1) ++ flat_map root_entry_bytes nodes ++ root_entry_bytes last

@@ -5,7 +5,8 @@ use Rattle.ch11_index.specs.declared.entry.NodeEntry.{NodeEntry}
 use Rattle.ch11_index.specs.declared.entry.RootEntry.{RootEntry}
 
 -- there is room for one node and one root; a root goes out before a further packet is named
-pub record HasIndexRoom (most : ℕ) (packets : List NodeEntry) (packet_room : ℕ) (nodes : List RootEntry)
+pub record HasIndexRoom (most : ℕ) (packets : List NodeEntry) (packet_room : ℕ)
+    (nodes : List RootEntry)
     (node_room : ℕ) : Type 0 where
   pub some : 0 < most
   pub few : most ≤ MOST_NAMED

@@ -9,7 +9,8 @@ use Rattle.ch11_merge.specs.declared.channels.MergedChannel.{MergedChannel}
 use Rattle.ch11_merge.specs.Merging.{FilePiece, ChannelLeft, head_of, is_ahead, IsNextAt, is_due, TakesPart, channel_with, TimeIsNext, PieceIsNext, NothingLeft}
 use Rattle.ch11_merge.specs.Placing.{Said, said_by, said_of, SayLeft, IsLeastIn}
 use Rattle.ch11_merge.proofs.Merged.{has_head}
-use Rattle.ch11_merge.proofs.Places.{all_there, all_from_there, other_there}
+use Rattle.ch11_packet.proofs.ChangedLists.{all_there, all_from_there}
+use Rattle.ch11_merge.proofs.Places.{other_there}
 
 -- what an index of a list of channels gives stands there
 pub stands_there : {X : Type 0} (items slice : List X) (at : ℕ) (first : X) → slice ≡ items → at < length slice → first ≡ get_or items at first

@@ -1,8 +1,8 @@
--- A merge keeps what each channel holds, and is the only one.
+-- A merge keeps what each channel holds, and one channel has its next piece.
 use Rattle.std.proofs.Common.{ℕ, ◌≡◌, ◌≢◌, inl, inr, List, [], ◌∷◌, ◌++◌, map, refl, sym, ◌∙◌, ap, subst, arith, Some, None, append_assoc, append-nil}
 use Rattle.std.specs.Prelude.{false, nat_lt, slice_get, slice_set}
 use Rattle.std.specs.List.{flat_map}
-use Rattle.std.proofs.lemmas.Bool.{cases_Bool, both_ways, true≢false, cases_eq, eq-eqb, ne_eqb}
+use Rattle.std.proofs.lemmas.Bool.{cases_Bool, true≢false, cases_eq, eq-eqb, ne_eqb}
 use Rattle.std.proofs.lemmas.Bool.Decides.{nat_tests}
 use Rattle.std.proofs.lemmas.List.{map-append}
 use Rattle.std.proofs.lemmas.Grind.{flat_map-append}
@@ -10,14 +10,14 @@ use Rattle.std.proofs.lemmas.Option.{same_Some}
 use Rattle.ch11_packet.specs.FramesRead.{ReadFrameData}
 use Rattle.ch11_merge.specs.declared.source.Head.{Head}
 use Rattle.ch11_merge.specs.declared.source.Head.TheVariants.{At, Uncounted, End}
-use Rattle.ch11_merge.specs.Merging.{FilePiece, ChannelLeft, Merged, head_of, is_ahead, IsNextAt, is_due}
+use Rattle.ch11_merge.specs.Merging.{FilePiece, ChannelLeft, Merged, head_of, is_ahead, IsNextAt}
 use Rattle.ch11_merge.specs.Merging.{frames_before, frames_from, piece_of, part_before, part_from, TakesPart, channel_with}
-use Rattle.ch11_merge.specs.Merging.{TimeIsNext, PieceIsNext, NothingLeft, Merges}
+use Rattle.ch11_merge.specs.Merging.{Merges}
 use Rattle.ch11_merge.specs.Merging.FilePiece.{OfFrames, OfRecord}
 use Rattle.ch11_merge.specs.Merging.Merged.{OfTime, OfPiece}
 use Rattle.ch11_merge.specs.Kept.{Held, held_in, held_of, AreNamedApart}
 use Rattle.ch11_merge.specs.Kept.Held.{HeldFrame}
-use Rattle.ch11_merge.proofs.Places.{all_there, set_there, set_elsewhere, set_cases}
+use Rattle.ch11_packet.proofs.ChangedLists.{all_there, set_there, set_elsewhere, set_cases}
 
 -- ---- kept
 
@@ -101,7 +101,7 @@ none_else after tick channels (OfPiece other piece ∷ out) channel none m =
     let more = subst (λ (new : List ChannelLeft). Merges after tick new out) s.others m.2 in
     rw (ne_eqb other channel off) (none_else after tick (slice_set channels s.at left) out channel still more)
 
--- ---- one merge
+-- ---- what is next
 
 one_tie : (a b : Head) (m n : ℕ) → a ≢ End → is_ahead a m b n ≡ false → is_ahead b n a m ≡ false → m ≡ n
 one_tie (At a) (At b) m n some p q = grind (arith, nat_tests)
@@ -128,55 +128,3 @@ one_next channels at other c d apart p q =
     (all_there (λ (e : ChannelLeft). is_ahead (head_of e.pieces) e.channel (head_of c.pieces) c.channel ≡ false) channels other d p.least q.there) in
     let same : at ≡ other = apart at other c d p.there q.there id in
     (same, same_Some d c (sym q.there ∙ (ap (slice_get channels) (sym same) ∙ p.there)))
-
-nothing_next : (channels : List ChannelLeft) (at : ℕ) (c : ChannelLeft) → NothingLeft channels → IsNextAt channels at c → ⊥
-nothing_next channels at c none p = p.some (all_there (λ (d : ChannelLeft). d.pieces ≡ []) channels at c none p.there)
-
-not_both : (tick : ℕ) (channels : List ChannelLeft) (channel : ℕ) (piece : FilePiece) (new : List ChannelLeft) → AreNamedApart channels
-    → TimeIsNext tick channels → PieceIsNext tick channels channel piece new → ⊥
-not_both tick channels channel piece new apart t p =
-    let same = one_next channels t.at p.at t.of p.of apart t.is_next p.is_next in
-    both_ways (is_due tick (head_of t.of.pieces)) (subst (λ (c : ChannelLeft). is_due tick (head_of c.pieces) ≡ false) same.1 p.early) t.due
-
-one_part : (tick : ℕ) (old : List FilePiece) (a b : FilePiece) (r s : List FilePiece) → TakesPart tick old a r → TakesPart tick old b s → (b ≡ a) × (s ≡ r)
-one_part tick [] a b r s p q = absurd p
-one_part tick (o ∷ os) a b r s p q = (q.0 ∙ sym p.0, q.1 ∙ sym p.1)
-
--- a step by a piece is one
-record IsSameStep (channel other : ℕ) (piece taken : FilePiece) (new left : List ChannelLeft) : Type 0 where
-  pub channel_is : other ≡ channel
-  pub piece_is : taken ≡ piece
-  pub left_is : left ≡ new
-
-one_step : (tick : ℕ) (channels : List ChannelLeft) (channel other : ℕ) (piece taken : FilePiece) (new left : List ChannelLeft) → AreNamedApart channels
-    → PieceIsNext tick channels channel piece new → PieceIsNext tick channels other taken left → IsSameStep channel other piece taken new left
-one_step tick channels channel other piece taken new left apart p q =
-    let same = one_next channels p.at q.at p.of q.of apart p.is_next q.is_next in
-    let parts = one_part tick p.of.pieces piece taken p.rest q.rest p.takes
-    (subst (λ (c : ChannelLeft). TakesPart tick c.pieces taken q.rest) same.1 q.takes) in
-    let id : other ≡ channel = sym q.named ∙ (ap (λ (c : ChannelLeft). c.channel) same.1 ∙ p.named) in
-    let place : p.at ≡ q.at = same.0 in
-    let rest : q.rest ≡ p.rest = parts.1 in
-    record { channel_is = id; piece_is = parts.0; left_is = q.others ∙ (rw (id, ← place, rest) (sym p.others)) }
-
-pub one_merge : (after : ℕ → ℕ) (tick : ℕ) (channels : List ChannelLeft) (out others : List Merged) → AreNamedApart channels
-    → Merges after tick channels out → Merges after tick channels others → others ≡ out
-one_merge after tick channels [] [] apart m n = refl
-one_merge after tick channels [] (OfTime t ∷ n) apart p q = absurd (nothing_next channels q.1.at q.1.of p q.1.is_next)
-one_merge after tick channels [] (OfPiece c x ∷ n) apart p q = absurd (nothing_next channels q.1.at q.1.of p q.1.is_next)
-one_merge after tick channels (OfTime t ∷ m) [] apart p q = absurd (nothing_next channels p.1.at p.1.of q p.1.is_next)
-one_merge after tick channels (OfPiece c x ∷ m) [] apart p q = absurd (nothing_next channels p.1.at p.1.of q p.1.is_next)
-one_merge after tick channels (OfTime t ∷ m) (OfTime u ∷ n) apart p q =
-    let rest = one_merge after (after tick) channels m n apart p.2 q.2 in
-    let same : u ≡ t = q.0 ∙ sym p.0 in
-    cc
-one_merge after tick channels (OfTime t ∷ m) (OfPiece c x ∷ n) apart p q = absurd (not_both tick channels c x q.0 apart p.1 q.1)
-one_merge after tick channels (OfPiece c x ∷ m) (OfTime t ∷ n) apart p q = absurd (not_both tick channels c x p.0 apart q.1 p.1)
-one_merge after tick channels (OfPiece c x ∷ m) (OfPiece d y ∷ n) apart p q =
-    let s = p.1 in
-    let step = one_step tick channels c d x y p.0 q.0 apart p.1 q.1 in
-    let still : AreNamedApart p.0 = subst AreNamedApart (sym s.others) (apart_with channels s.at c s.of s.rest apart s.is_next.there s.named) in
-    let rest = one_merge after tick p.0 m n still p.2 (subst (λ (new : List ChannelLeft). Merges after tick new n) step.left_is q.2) in
-    let ids : d ≡ c = step.channel_is in
-    let pieces : y ≡ x = step.piece_is in
-    cc

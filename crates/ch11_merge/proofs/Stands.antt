@@ -21,7 +21,7 @@ use Rattle.ch11_merge.specs.contracts.waiting.WaitingOrd.TheImpl.{ghosts}
 use Rattle.ch11_merge.specs.Merging.{is_ahead}
 use Rattle.ch11_merge.specs.Placing.{IsLeastIn}
 use Rattle.ch11_merge.specs.Waiting.{reverse_order, index_of, IsStand, AreStands, IsFirstOf, StandsAgain}
-use Rattle.ch11_merge.proofs.Places.{set_there, set_elsewhere, all_from_there}
+use Rattle.ch11_packet.proofs.ChangedLists.{set_there, set_elsewhere, all_from_there}
 
 -- ---- which comes first
 

@@ -14,7 +14,7 @@ use Rattle.ch11_merge.specs.Merging.FilePiece.{OfFrames, OfRecord}
 use Rattle.ch11_merge.specs.Merging.Merged.{OfTime, OfPiece}
 use Rattle.ch11_merge.specs.Kept.{Held, held_in, held_of, AreNamedApart, HasNoCounter, IsSteady, LieBehindTimes, LiesFrom, NeverStepBack}
 use Rattle.ch11_merge.specs.Kept.Held.{HeldFrame, HeldRecord}
-use Rattle.ch11_merge.proofs.Places.{all_there, set_there, set_elsewhere}
+use Rattle.ch11_packet.proofs.ChangedLists.{all_there, set_there, set_elsewhere}
 use Rattle.ch11_merge.proofs.Merged.{apart_with, kept, takes_held}
 use Rattle.ch11_merge.proofs.TimesAhead.{weaker}
 

@@ -1,5 +1,6 @@
 -- The order of a file: the pieces of several channels, cut where time packets stand between them.
-use Rattle.std.specs.Prelude.{ℕ, ◌≡◌, ◌≢◌, ◌&&◌, ◌||◌, Bool, true, false, nat_le, nat_lt, nat_eq, if◌then◌else◌, List, []}
+use Rattle.std.specs.Prelude.{ℕ, ◌≡◌, ◌≢◌, ◌&&◌, ◌||◌, Bool, true, false, nat_le, nat_lt, nat_eq}
+use Rattle.std.specs.Prelude.{if◌then◌else◌, List, []}
 use Rattle.std.specs.Prelude.{◌∷◌, ◌++◌, All, Option, None, Some, slice_get, slice_set}
 use Rattle.ch11_packet.specs.FramesRead.{ReadFrameData}
 use Rattle.ch11_merge.specs.declared.source.Head.{Head}
@@ -7,8 +8,8 @@ use Rattle.ch11_merge.specs.declared.source.Head.TheVariants.{At, Uncounted, End
 
 -- ---- what is merged
 
--- a piece of a channel, of the packet at a place in its recording: frames, or a record with its counter, if
--- it has one
+-- a piece of a channel, of the packet at a place in its recording: frames, or a record with its
+-- counter, if it has one
 pub data FilePiece : Type 0 where
   OfFrames : (place : ℕ) → List ReadFrameData → FilePiece
   OfRecord : (place : ℕ) → (counter : Option ℕ) → (body : List ℕ) → FilePiece
@@ -105,7 +106,8 @@ part_from tick (OfFrames place frames) = piece_of place (frames_from tick frames
 part_from tick (OfRecord place counter body) = []
 
 -- what was taken of the first of these pieces, and what is left
-abbrev pub TakesPart : (tick : ℕ) → (old : List FilePiece) → FilePiece → (new : List FilePiece) → Type 0
+abbrev pub TakesPart : (tick : ℕ) → (old : List FilePiece) → FilePiece → (new : List FilePiece)
+    → Type 0
 TakesPart tick [] taken new = ⊥
 TakesPart tick (piece ∷ pieces) taken new =
     (taken ≡ part_before tick piece) × (new ≡ part_from tick piece ++ pieces)
@@ -139,8 +141,8 @@ pub record PieceIsNext (tick : ℕ) (old : List ChannelLeft) (channel : ℕ) (pi
 abbrev pub NothingLeft : List ChannelLeft → Type 0
 NothingLeft channels = All (λ c. c.pieces ≡ []) channels
 
--- the channels' pieces in the order of the file: the tick of the next time packet is `tick`, and behind
--- that of a tick comes that of `after tick`
+-- the channels' pieces in the order of the file: the tick of the next time packet is `tick`, and
+-- behind that of a tick comes that of `after tick`
 abbrev pub Merges : (after : ℕ → ℕ) → (tick : ℕ) → List ChannelLeft → List Merged → Type 0
 Merges after tick channels [] = NothingLeft channels
 Merges after tick channels (OfTime time ∷ out) =

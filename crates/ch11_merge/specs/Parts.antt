@@ -1,5 +1,6 @@
 -- The pieces of a packet's frames, and the part of the first that goes out ahead of a tick.
-use Rattle.std.specs.Prelude.{ℕ, zero, suc, ◌≡◌, ◌≤◌, ◌&&◌, Bool, true, false, nat_lt, if◌then◌else◌, List, [], ◌∷◌, take, drop, length}
+use Rattle.std.specs.Prelude.{ℕ, zero, suc, ◌≡◌, ◌≤◌, ◌&&◌, Bool, true, false, nat_lt}
+use Rattle.std.specs.Prelude.{if◌then◌else◌, List, [], ◌∷◌, take, drop, length}
 use Rattle.ch11_packet.specs.FramesRead.{ReadFrameData}
 use Rattle.ch11_merge.specs.declared.piece.PieceSoFar.{PieceSoFar}
 use Rattle.ch11_merge.specs.Pieces.{piece_before, with_frame, with_frames, begun, goes_on}
@@ -8,8 +9,10 @@ use Rattle.ch11_merge.specs.Merging.FilePiece.{OfFrames, OfRecord}
 
 -- ---- all pieces
 
--- of frames of the packet at a place, behind a piece so far: those that go on with it, and the pieces behind it
-abbrev pub cut_behind : (place : ℕ) → PieceSoFar → List ReadFrameData → List ReadFrameData × List FilePiece
+-- of frames of the packet at a place, behind a piece so far: those that go on with it, and the
+-- pieces behind it
+abbrev pub cut_behind : (place : ℕ) → PieceSoFar → List ReadFrameData → List ReadFrameData
+    × List FilePiece
 cut_behind place piece [] = ([], [])
 cut_behind place piece (frame ∷ frames) =
     if goes_on piece frame
@@ -33,7 +36,8 @@ pieces_left place ahead (frame ∷ frames) =
 -- the pieces of frames of which the first begins a piece
 abbrev pub frames_pieces : (place : ℕ) → List ReadFrameData → List FilePiece
 frames_pieces place [] = []
-frames_pieces place (frame ∷ frames) = pieces_left place (piece_before frame.counter) (frame ∷ frames)
+frames_pieces place (frame ∷ frames) =
+    pieces_left place (piece_before frame.counter) (frame ∷ frames)
 
 -- the frames of a piece
 abbrev pub frames_of_piece : FilePiece → List ReadFrameData
@@ -59,7 +63,8 @@ Stays tick piece (frame ∷ frames) next =
     (goes_with tick piece frame ≡ false)
     × (next ≡ (if goes_on piece frame then piece else piece_before frame.counter))
 
--- behind a first frame `len` frames go out with it; and the piece so far that the next one belongs to
+-- behind a first frame `len` frames go out with it; and the piece so far that the next one belongs
+-- to
 pub record IsPart (tick : ℕ) (piece : PieceSoFar) (frames : List ReadFrameData) (len : ℕ)
     (next : PieceSoFar) : Type 0 where
   pub within : len ≤ length frames

@@ -1,5 +1,6 @@
 -- The pieces of a packet's frames: each goes into one packet of the file.
-use Rattle.std.specs.Prelude.{ℕ, ◌+◌, ◌≡◌, ◌&&◌, Bool, true, false, nat_le, nat_lt, List, [], ◌∷◌, ◌++◌, length}
+use Rattle.std.specs.Prelude.{ℕ, ◌+◌, ◌≡◌, ◌&&◌, Bool, true, false, nat_le, nat_lt, List, [], ◌∷◌}
+use Rattle.std.specs.Prelude.{◌++◌, length}
 use Rattle.std.specs.List.{AllByRecursion}
 use Rattle.ch11_packet.specs.declared.header.TheConstants.{MAX_ETHERNET_PACKET_LEN}
 use Rattle.ch11_packet.specs.Frames.{data_len, frame_len}
@@ -32,8 +33,8 @@ with_frames piece (frame ∷ frames) = with_frames (with_frame piece frame) fram
 abbrev pub begun : ReadFrameData → PieceSoFar
 begun frame = with_frame (piece_before frame.counter) frame
 
--- whether a frame goes on with a piece: its counter isn't less than that of the frame before it, it lies
--- within 100 ms of the piece's first frame, and the packet doesn't get too long
+-- whether a frame goes on with a piece: its counter isn't less than that of the frame before it, it
+-- lies within 100 ms of the piece's first frame, and the packet doesn't get too long
 abbrev pub goes_on : PieceSoFar → ReadFrameData → Bool
 goes_on piece frame =
     nat_le piece.last frame.counter && nat_lt frame.counter (piece.first + PIECE_TICKS)
@@ -54,7 +55,8 @@ IsPiece (first ∷ frames) = GoOn (begun first) frames
 
 -- the frames that follow don't go on with the piece
 abbrev pub IsCutBehind : (piece more : List ReadFrameData) → Type 0
-IsCutBehind (first ∷ frames) (frame ∷ more) = goes_on (with_frames (begun first) frames) frame ≡ false
+IsCutBehind (first ∷ frames) (frame ∷ more) =
+    goes_on (with_frames (begun first) frames) frame ≡ false
 IsCutBehind piece more = Unit {0}
 
 -- between two pieces that follow each other is a cut

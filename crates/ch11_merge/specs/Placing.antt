@@ -6,7 +6,8 @@ use Rattle.ch11_merge.specs.declared.channels.MergedChannel.{MergedChannel}
 use Rattle.ch11_merge.specs.declared.placed.NextPiece.{NextPiece}
 use Rattle.ch11_merge.specs.declared.placed.Placed.{Placed}
 use Rattle.ch11_merge.specs.declared.placed.Placed.TheVariants.{Time, Piece}
-use Rattle.ch11_merge.specs.Merging.{FilePiece, ChannelLeft, head_of, is_ahead, IsNextAt, StandsFirst, TimeIsNext, PieceIsNext, NothingLeft, Merged}
+use Rattle.ch11_merge.specs.Merging.{FilePiece, ChannelLeft, head_of, is_ahead, IsNextAt}
+use Rattle.ch11_merge.specs.Merging.{StandsFirst, TimeIsNext, PieceIsNext, NothingLeft, Merged}
 use Rattle.ch11_merge.specs.Merging.Merged.{OfTime, OfPiece}
 
 -- what a channel's source says: the channel's ID, and the pieces that are left, if it says them
@@ -39,7 +40,8 @@ placed_data data_of (Time tick) = OfTime tick
 placed_data data_of (Piece channel piece) = OfPiece channel (data_of piece)
 
 -- one step of the merge, and what is left behind it
-abbrev pub Places : (tick : ℕ) → (old : List ChannelLeft) → Merged → (new : List ChannelLeft) → Type 0
+abbrev pub Places : (tick : ℕ) → (old : List ChannelLeft) → Merged → (new : List ChannelLeft)
+    → Type 0
 Places tick old (OfTime time) new = (time ≡ tick) × TimeIsNext tick old × (new ≡ old)
 Places tick old (OfPiece channel piece) new = PieceIsNext tick old channel piece new
 

@@ -39,7 +39,8 @@ impl<S: PieceSource> Model for MergedChannels<S> {
 
     ghost view = { λ m. m.channels.items };
 
-    ghost invariant = { λ m. AreStands S.stands m.channels.items (length m.channels.items) (heap_items m.waiting) };
+    ghost invariant = { λ m. AreStands S.stands m.channels.items
+        (length m.channels.items) (heap_items m.waiting) };
 }
 
 impl<S: PieceSource + Drop> MergedChannels<S> {

@@ -44,16 +44,10 @@ pub fn a_merge_keeps_each_channel()
 
 /// Law: a merge holds nothing of any other channel.
 pub fn a_merge_has_no_other_channel()
-    ensures { (after : ℕ → ℕ) (tick : ℕ) (channels : List ChannelLeft) (out : List Merged) (channel : ℕ)
+    ensures { (after : ℕ → ℕ) (tick : ℕ) (channels : List ChannelLeft) (out : List Merged)
+        (channel : ℕ)
         → ((at : ℕ) (c : ChannelLeft) → slice_get channels at ≡ Some c → c.channel ≢ channel)
         → Merges after tick channels out → held_of channel out ≡ [] }
-{}
-
-/// Law: channels have one merge.
-pub fn there_is_one_merge()
-    ensures { (after : ℕ → ℕ) (tick : ℕ) (channels : List ChannelLeft) (out others : List Merged)
-        → AreNamedApart channels → Merges after tick channels out
-        → Merges after tick channels others → others ≡ out }
 {}
 
 /// Law: where the ticks of time packets never fall, each time packet whose tick is at most the counter of a

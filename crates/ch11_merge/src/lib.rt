@@ -12,8 +12,8 @@ mod waiting;
 pub use channels::{MergedChannel, MergedChannels};
 pub use laws::{
     a_merge_has_no_other_channel, a_merge_keeps_each_channel, frames_are_cut_in_one_way,
-    frames_have_pieces, pieces_are_short, pieces_of_frames_are_the_cut, there_is_one_merge,
-    time_packets_stand_ahead, time_packets_stand_late,
+    frames_have_pieces, pieces_are_short, pieces_of_frames_are_the_cut, time_packets_stand_ahead,
+    time_packets_stand_late,
 };
 pub use piece::{PIECE_TICKS, PieceSoFar};
 pub use placed::{NextPiece, Placed, next_piece, next_placed};

@@ -5,7 +5,8 @@ use Rattle.std.specs.Prelude.{ℕ, ◌*◌, ℤ, pos, ◌+ℤ◌, ◌<ℤ◌, �
 abbrev pub time_from : (start : ℤ) → (counter : ℕ) → ℤ
 time_from start counter = start +ℤ pos (counter * 100)
 
--- the counter is the nearest to a time; where the time lies in the middle of two, it is the later one
+-- the counter is the nearest to a time; where the time lies in the middle of two, it is the later
+-- one
 pub record IsMoved (start time : ℤ) (counter : ℕ) : Type 0 where
   pub not_late : time_from start counter ≤ℤ (time +ℤ pos 50)
   pub not_early : time <ℤ (time_from start counter +ℤ pos 50)

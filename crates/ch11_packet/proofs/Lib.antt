@@ -15,3 +15,4 @@ pub mod Decided
 pub mod Outcomes
 pub mod Sending
 pub mod Summed
+pub mod ChangedLists

@@ -1,5 +1,6 @@
 -- Bodies of Ethernet data, those that frames are still added to, and their buffers.
-use Rattle.std.specs.Prelude.{ℕ, ◌≡◌, ◌+◌, ◌^◌, ◌<◌, ◌≤◌, List, [], ◌∷◌, ◌++◌, length, map, drop, All}
+use Rattle.std.specs.Prelude.{ℕ, ◌≡◌, ◌+◌, ◌^◌, ◌<◌, ◌≤◌, List, [], ◌∷◌, ◌++◌, length, map, drop}
+use Rattle.std.specs.Prelude.{All}
 use Rattle.std.specs.Int.{w32, to_le_bytes}
 use Rattle.std.specs.List.{flat_map}
 use Rattle.ch11_packet.specs.declared.frames.word.TheConstants.{BODY_WORD_LEN, MAX_SPEED}
@@ -62,7 +63,8 @@ unfoldable pub frames_in : (count : ℕ) (bytes : List ℕ) → List FrameData
 frames_in count bytes = map frame_in (first_reads count (drop BODY_WORD_LEN bytes))
 
 -- the bytes are a word of this number and these frames
-pub record HoldsFrames (word : ℕ) (frames : List FrameData) (net speed : ℕ) (bytes : List ℕ) : Type 0 where
+pub record HoldsFrames (word : ℕ) (frames : List FrameData) (net speed : ℕ)
+    (bytes : List ℕ) : Type 0 where
   pub bytes_are : bytes ≡ to_le_bytes w32 word ++ flat_map (frame_bytes net speed) frames
   pub in_range : All IsFrame frames
   pub net_fits : net < 2 ^ 8

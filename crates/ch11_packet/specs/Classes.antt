@@ -15,7 +15,8 @@ use Rattle.ch11_packet.specs.declared.class.ClassFault.TheVariants.{DataChecksum
 use Rattle.ch11_packet.specs.Header.{HeaderData}
 use Rattle.ch11_packet.specs.Sums.{body_sum}
 use Rattle.ch11_packet.specs.Flags.{HasChecksum, IsPlain}
-use Rattle.ch11_packet.specs.FramesRead.{ReadFrameData, count_in, first_reads, SpellsBody, HasBodyFault}
+use Rattle.ch11_packet.specs.FramesRead.{ReadFrameData, count_in, first_reads, SpellsBody}
+use Rattle.ch11_packet.specs.FramesRead.{HasBodyFault}
 use Rattle.ch11_packet.specs.RecordsRead.{IsTagged, SpellsRecord, HasRecordFault}
 use Rattle.ch11_packet.specs.RecordsRead.RecordData.{OfProgram, OfEnd}
 
@@ -82,8 +83,8 @@ HasSum body =
 abbrev pub IsSummed : HeaderData → (body : List ℕ) → Type 0
 IsSummed header body = HasChecksum header.flags → HasSum body
 
--- a packet of this header, with these bytes after it, holds this. The data checksum of a packet that
--- is neither frames nor a record isn't judged
+-- a packet of this header, with these bytes after it, holds this. The data checksum of a packet
+-- that is neither frames nor a record isn't judged
 pub record Holds (header : HeaderData) (body : List ℕ) (what : What) : Type 0 where
   pub class : HasClass header (data_in header body) what
   pub summed : ¬ IsOther header (data_in header body) → IsSummed header body
@@ -95,8 +96,8 @@ HasClassFault header body DataChecksum =
 HasClassFault header body Body = HasNoClass header (data_in header body) × IsSummed header body
 
 -- what is judged of two headers is the same, but for whether a data checksum follows; the other
--- flags, the packet length, the data type version, the sequence number and the relative time counter
--- may differ
+-- flags, the packet length, the data type version, the sequence number and the relative time
+-- counter may differ
 pub record IsJudgedAs (header other : HeaderData) : Type 0 where
   pub channel : other.channel ≡ header.channel
   pub data_len : other.data_len ≡ header.data_len

@@ -5,8 +5,8 @@ use Rattle.std.specs.Prelude.{ℕ, ◌^◌, ◌/◌, ◌%◌, ◌==◌, ◌≡�
 abbrev pub has_bit : ℕ → ℕ → Bool
 has_bit word k = word / 2 ^ k % 2 == 1
 
--- a data checksum of 32 bits stands at the packet's end (bits 1 and 0 are both set; one of them alone
--- is for a checksum of 8 or 16 bits)
+-- a data checksum of 32 bits stands at the packet's end (bits 1 and 0 are both set; one of them
+-- alone is for a checksum of 8 or 16 bits)
 pub record HasChecksum (flags : ℕ) : Type 0 where
   pub high : has_bit flags 1 ≡ true
   pub low : has_bit flags 0 ≡ true

@@ -1,6 +1,7 @@
 -- The body of a packet of Ethernet data as it is written (IRIG 106-17 Chapter 11, Ethernet Data
 -- Packets, Format 0, in this project's profile): a word, and then each frame behind its own header.
-use Rattle.std.specs.Prelude.{ℕ, ◌+◌, ◌*◌, ◌^◌, ◌%◌, if◌then◌else◌, List, ◌∷◌, ◌++◌, length, replicate}
+use Rattle.std.specs.Prelude.{ℕ, ◌+◌, ◌*◌, ◌^◌, ◌%◌, if◌then◌else◌, List, ◌∷◌, ◌++◌, length}
+use Rattle.std.specs.Prelude.{replicate}
 use Rattle.std.specs.Int.{w32, to_le_bytes, bytes_low_first}
 use Rattle.std.specs.List.{sum_by, flat_map}
 use Rattle.ch11_packet.specs.declared.frames.word.TheConstants.{BODY_WORD_LEN, FRAME_HEADER_LEN}

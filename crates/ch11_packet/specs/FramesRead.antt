@@ -1,6 +1,7 @@
 -- The body of a packet of Ethernet data as it is read (IRIG 106-17 Chapter 11, Ethernet Data
 -- Packets, Format 0, in this project's profile): some bits and bytes may have any value.
-use Rattle.std.specs.Prelude.{ℕ, zero, suc, ◌^◌, ◌/◌, ◌%◌, Bool, List, [], ◌∷◌, take, drop, ◌≡◌, ◌+◌, ◌*◌, ◌<◌, ◌≤◌, ◌⊎◌, if◌then◌else◌, ◌++◌, length, ◌≢◌}
+use Rattle.std.specs.Prelude.{ℕ, zero, suc, ◌^◌, ◌/◌, ◌%◌, Bool, List, [], ◌∷◌, take, drop, ◌≡◌}
+use Rattle.std.specs.Prelude.{◌+◌, ◌*◌, ◌<◌, ◌≤◌, ◌⊎◌, if◌then◌else◌, ◌++◌, length, ◌≢◌}
 use Rattle.ch11_packet.specs.declared.frames.word.TheConstants.{FRAME_HEADER_LEN, BODY_WORD_LEN}
 use Rattle.eth_frame.specs.Bytes.{u32_at, u48_at}
 use Rattle.ch11_packet.specs.Flags.{has_bit}

@@ -1,8 +1,10 @@
 -- The header of a packet, its 24 bytes, and what is wrong with 24 bytes that are no header (IRIG
 -- 106-17 Chapter 11, packet header).
-use Rattle.std.specs.Prelude.{ℕ, ◌^◌, ◌%◌, List, [], ◌∷◌, sum, ◌≡◌, ◌+◌, ◌<◌, ◌≤◌, ◌++◌, take, slice_index}
+use Rattle.std.specs.Prelude.{ℕ, ◌^◌, ◌%◌, List, [], ◌∷◌, sum, ◌≡◌, ◌+◌, ◌<◌, ◌≤◌, ◌++◌, take}
+use Rattle.std.specs.Prelude.{slice_index}
 use Rattle.std.specs.Int.{w16, from_le_bytes, w32, to_le_bytes, bytes_low_first}
-use Rattle.ch11_packet.specs.declared.header.TheConstants.{SYNC_PATTERN, HEADER_LEN, ETHERNET_DATA, MAX_ETHERNET_PACKET_LEN, CHECKED_LEN}
+use Rattle.ch11_packet.specs.declared.header.TheConstants.{SYNC_PATTERN, HEADER_LEN, ETHERNET_DATA}
+use Rattle.ch11_packet.specs.declared.header.TheConstants.{MAX_ETHERNET_PACKET_LEN, CHECKED_LEN}
 use Rattle.ch11_packet.specs.declared.header.HeaderFault.{HeaderFault}
 use Rattle.ch11_packet.specs.declared.header.HeaderFault.TheVariants.{Sync, Checksum, Length}
 use Rattle.ch11_packet.specs.declared.sum.TheConstants.{CHECKSUM_LEN}

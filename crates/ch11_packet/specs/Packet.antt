@@ -9,8 +9,8 @@ use Rattle.ch11_packet.specs.Profiles.{Profile}
 use Rattle.ch11_packet.specs.Profiles.Profile.{WithoutSum, WithSum}
 use Rattle.ch11_packet.specs.PacketLen.{packet_len}
 
--- the filler after a body of `data_len` bytes: the fewest zero bytes that make the packet's length a
--- multiple of 4
+-- the filler after a body of `data_len` bytes: the fewest zero bytes that make the packet's length
+-- a multiple of 4
 abbrev pub packet_filler : ℕ → List ℕ
 packet_filler data_len = replicate (packet_len data_len - (HEADER_LEN + data_len)) 0
 

@@ -1,4 +1,5 @@
--- The two profiles in which recordings are written. What is written now is the second; both are read.
+-- The two profiles in which recordings are written. What is written now is the second; both are
+-- read.
 use Rattle.std.specs.Prelude.{ℕ}
 
 -- what stands behind the filler of each packet: nothing in the first profile, a data checksum of 32

@@ -1,7 +1,10 @@
 -- The recording's own records as they are read: some bytes may have any value.
-use Rattle.std.specs.Prelude.{ℕ, zero, suc, List, [], ◌∷◌, drop, slice_index, ◌≡◌, ◌≢◌, ◌+◌, ◌*◌, ◌^◌, ◌<◌, ◌≤◌, ◌⊎◌, ◌++◌, length, take, codes}
+use Rattle.std.specs.Prelude.{ℕ, zero, suc, List, [], ◌∷◌, drop, slice_index, ◌≡◌, ◌≢◌, ◌+◌, ◌*◌}
+use Rattle.std.specs.Prelude.{◌^◌, ◌<◌, ◌≤◌, ◌⊎◌, ◌++◌, length, take, codes}
 use Rattle.bpf_insn.specs.declared.insn.Insn.{Insn}
-use Rattle.ch11_packet.specs.declared.records.TheConstants.{INSN_LEN, RECORD_HEAD_LEN, PROGRAM_HEAD_LEN, PROGRAM_RECORD, END_RECORD}
+use Rattle.ch11_packet.specs.declared.records.TheConstants.{INSN_LEN, RECORD_HEAD_LEN}
+use Rattle.ch11_packet.specs.declared.records.TheConstants.{PROGRAM_HEAD_LEN, PROGRAM_RECORD}
+use Rattle.ch11_packet.specs.declared.records.TheConstants.{END_RECORD}
 use Rattle.ch11_packet.specs.declared.records.encode.TheConstants.{END_RECORD_LEN}
 use Rattle.eth_frame.specs.Bytes.{u16_at, u32_at}
 use Rattle.std.specs.Int.{w16, to_le_bytes}
@@ -103,4 +106,5 @@ HasRecordFault bytes Channel =
     HasRecordHead bytes × IsKind (kind_in bytes) × (record_channel_in bytes ≡ 0)
 HasRecordFault bytes Length =
     (IsTagged bytes × (length bytes < RECORD_HEAD_LEN))
-    ⊎ (HasRecordHead bytes × IsKind (kind_in bytes) × (record_channel_in bytes ≢ 0) × ¬ HasRecordLength bytes)
+    ⊎ (HasRecordHead bytes × IsKind (kind_in bytes) × (record_channel_in bytes ≢ 0)
+    × ¬ HasRecordLength bytes)

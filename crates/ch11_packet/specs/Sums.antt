@@ -1,5 +1,5 @@
--- The sum of a packet's data checksum (IRIG 106-17 Chapter 11, packet trailer, 32-bit data checksum):
--- of the words between the header and the checksum, the filler among them.
+-- The sum of a packet's data checksum (IRIG 106-17 Chapter 11, packet trailer, 32-bit data
+-- checksum): of the words between the header and the checksum, the filler among them.
 use Rattle.std.specs.Prelude.{ℕ, ◌-◌, ◌%◌, ◌^◌, List, [], ◌∷◌, ◌++◌, length, replicate, sum}
 use Rattle.std.specs.Int.{w32, from_le_bytes, next_multiple_of}
 

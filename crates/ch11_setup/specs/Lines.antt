@@ -6,8 +6,8 @@ use Rattle.ch11_setup.specs.Dates.{date_text, date_time_text}
 
 -- ---- the recording
 
--- general information: the name of the test, the format's edition, the date of the first time packet,
--- and the host, the one source of data
+-- general information: the name of the test, the format's edition, the date of the first time
+-- packet, and the host, the one source of data
 abbrev pub general_attributes : (test host : List ℕ) → CivilTime → List AttributeData
 general_attributes test host time =
     attribute_of (codes "G\\PN") test

@@ -1,5 +1,6 @@
 -- The attributes of the setup record of a recording, all of them.
-use Rattle.std.specs.Prelude.{ℕ, ◌+◌, ◌<◌, ◌^◌, Bool, if◌then◌else◌, List, [], ◌∷◌, ◌++◌, map, length, bytes_eq, codes}
+use Rattle.std.specs.Prelude.{ℕ, ◌+◌, ◌<◌, ◌^◌, Bool, if◌then◌else◌, List, [], ◌∷◌, ◌++◌, map}
+use Rattle.std.specs.Prelude.{length, bytes_eq, codes}
 use Rattle.std.specs.List.{AllByRecursion}
 use Rattle.ch11_clock.specs.CivilTime.{IsCivilTime}
 use Rattle.ch11_setup.specs.declared.setup.Setup.{Setup}
@@ -7,7 +8,8 @@ use Rattle.ch11_setup.specs.declared.setup.SetupChannel.{SetupChannel}
 use Rattle.ch11_setup.specs.declared.attribute.Attribute.{Attribute}
 use Rattle.ch11_setup.specs.Attributes.{AttributeData, attribute_of, AreAttributes}
 use Rattle.ch11_setup.specs.Names.{cleaned, source_name}
-use Rattle.ch11_setup.specs.Lines.{general_attributes, recorder_attributes, content_attributes, time_attributes}
+use Rattle.ch11_setup.specs.Lines.{general_attributes, recorder_attributes, content_attributes}
+use Rattle.ch11_setup.specs.Lines.{time_attributes}
 use Rattle.ch11_setup.specs.Lines.{channel_attributes, comment_attribute}
 
 -- Ethernet channels, in order, from the n-th data source on

@@ -1,5 +1,6 @@
 -- Which data sources a reader of a setup record finds.
-use Rattle.std.specs.Prelude.{ℕ, ◌+◌, ◌==◌, ◌≡◌, ◌&&◌, Bool, true, false, List, [], ◌∷◌, ◌++◌, map, filter, drop, length}
+use Rattle.std.specs.Prelude.{ℕ, ◌+◌, ◌==◌, ◌≡◌, ◌&&◌, Bool, true, false, List, [], ◌∷◌, ◌++◌, map}
+use Rattle.std.specs.Prelude.{filter, drop, length}
 use Rattle.std.specs.Prelude.{bytes_eq, codes, decimal}
 use Rattle.std.specs.List.{AllByRecursion}
 use Rattle.ch11_setup.specs.declared.setup.Setup.{Setup}
@@ -25,11 +26,13 @@ is_named_so name attribute = bytes_eq attribute.name name
 -- what stands behind a beginning in the names that begin so, each with its value
 abbrev pub values_behind : (front : List ℕ) → List AttributeData → List (List ℕ × List ℕ)
 values_behind front attributes =
-    map (λ (a : AttributeData). (drop (length front) a.name, a.value)) (filter (begins_so front) attributes)
+    map (λ (a : AttributeData). (drop (length front) a.name, a.value))
+    (filter (begins_so front) attributes)
 
 -- the values of the attributes with a name
 abbrev pub values_named : (name : List ℕ) → List AttributeData → List (List ℕ)
-values_named name attributes = map (λ (a : AttributeData). a.value) (filter (is_named_so name) attributes)
+values_named name attributes =
+    map (λ (a : AttributeData). a.value) (filter (is_named_so name) attributes)
 
 -- none of the attributes is one of these
 abbrev pub HasNoneOf : (AttributeData → Bool) → List AttributeData → Type 0
@@ -48,12 +51,15 @@ said_of_each number said n [] = []
 said_of_each number said n (channel ∷ channels) =
     (number n, said channel) ∷ said_of_each number said (n + 1) channels
 
--- the first data source is the time channel, and from the second on they are the recording's channels, in order:
--- each with its number, its type, its name, and its network's number and name; there are no others
+-- the first data source is the time channel, and from the second on they are the recording's
+-- channels, in order: each with its number, its type, its name, and its network's number and name;
+-- there are no others
 pub record SaysSources (setup : Setup) (attributes : List AttributeData) : Type 0 where
-  pub count : values_named (codes "R-1\\N") attributes ≡ decimal (length setup.channels.now + 1) ∷ []
+  pub count : values_named (codes "R-1\\N") attributes ≡ decimal (length setup.channels.now + 1)
+      ∷ []
   pub numbers : values_behind (codes "R-1\\TK1-") attributes
-      ≡ (codes "1", decimal setup.time_channel) ∷ said_of_each decimal (λ c. decimal c.id) 2 setup.channels.now
+      ≡ (codes "1", decimal setup.time_channel)
+      ∷ said_of_each decimal (λ c. decimal c.id) 2 setup.channels.now
   pub types : values_behind (codes "R-1\\CDT-") attributes
       ≡ (codes "1", codes "TIMEIN") ∷ said_of_each decimal (λ c. codes "ETHIN") 2 setup.channels.now
   pub names : values_behind (codes "R-1\\DSI-") attributes

@@ -1,5 +1,6 @@
 -- What recordings that are joined name.
-use Rattle.std.specs.Prelude.{ℕ, ◌≡◌, ◌⊎◌, ◌<◌, nat_lt, if◌then◌else◌, List, map, get_or, Option, None, Some}
+use Rattle.std.specs.Prelude.{ℕ, ◌≡◌, ◌⊎◌, ◌<◌, nat_lt, if◌then◌else◌, List, map, get_or, Option}
+use Rattle.std.specs.Prelude.{None, Some}
 use Rattle.std.specs.List.{flat_map}
 use Rattle.ch11_channels.specs.declared.channels.FileChannel.{FileChannel}
 use Rattle.ch11_channels.specs.declared.channels.RunChannel.{RunChannel}
@@ -16,7 +17,8 @@ use Rattle.cli_chapter11.specs.declared.joined_channels.ListedRecording.{ListedR
 abbrev pub after_of : RecordingSettings → Option ℕ
 after_of recording = recording.after
 
--- why a recording isn't in a file: a packet of another kind stands at this place, or it isn't a part of its run there
+-- why a recording isn't in a file: a packet of another kind stands at this place, or it isn't a
+-- part of its run there
 pub data ListedRefusal : Type 0 where
   OfOther : (at : ℕ) → ListedRefusal
   OfPart : (at : ℕ) → ListedRefusal
@@ -26,7 +28,8 @@ abbrev pub first_refusal : (other part : Option ℕ) → Option ListedRefusal
 first_refusal None None = None
 first_refusal None (Some part) = Some (OfPart part)
 first_refusal (Some other) None = Some (OfOther other)
-first_refusal (Some other) (Some part) = if nat_lt other part then Some (OfOther other) else Some (OfPart part)
+first_refusal (Some other) (Some part) =
+    if nat_lt other part then Some (OfOther other) else Some (OfPart part)
 
 abbrev pub listed_refusal : ListedRecording → Option ListedRefusal
 listed_refusal listed = first_refusal listed.other listed.part
@@ -37,7 +40,8 @@ ending_listed (OfOther at) place = Joined (Other at) place
 ending_listed (OfPart at) place = InRun (Part at) place
 
 -- the first recording that isn't in a file is this one, for this reason
-pub record IsFirstRefusal (refusals : List (Option ListedRefusal)) (place : ℕ) (refusal : ListedRefusal) : Type 0 where
+pub record IsFirstRefusal (refusals : List (Option ListedRefusal)) (place : ℕ)
+    (refusal : ListedRefusal) : Type 0 where
   pub there : get_or refusals place None ≡ Some refusal
   pub first : (earlier : ℕ) → earlier < place → get_or refusals earlier None ≡ None
 
@@ -52,4 +56,5 @@ all_listed_channels = flat_map listed_channels_of
 abbrev pub IsFull : List RunChannel → Type 0
 IsFull named =
     NoIdIsFree named
-    ⊎ ((channels : List FileChannel) × AreNumberedChannels named channels × AreAllTaken (is_id_of channels))
+    ⊎ ((channels : List FileChannel) × AreNumberedChannels named channels
+    × AreAllTaken (is_id_of channels))

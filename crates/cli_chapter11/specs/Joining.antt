@@ -1,5 +1,6 @@
 -- What SETUP says of recordings that are joined, and what is read of them.
-use Rattle.std.specs.Prelude.{ℕ, ◌≡◌, ◌<◌, ◌^◌, ◌==◌, if◌then◌else◌, List, [], ◌∷◌, length, Bool, Option, None, Some}
+use Rattle.std.specs.Prelude.{ℕ, ◌≡◌, ◌<◌, ◌^◌, ◌==◌, if◌then◌else◌, List, [], ◌∷◌, length, Bool}
+use Rattle.std.specs.Prelude.{Option, None, Some}
 use Rattle.std.specs.List.{filter, find}
 use Rattle.std.specs.Option.{option_map}
 use Rattle.ch11_clock.specs.declared.origin.Origin.{Origin}
@@ -53,7 +54,8 @@ said_first [] others = others
 said_first (said ∷ more) others = said ∷ []
 
 -- the name of a channel of the file, by the table of the first recording of its run that names it
-abbrev pub name_by_table : List RecordingSettings → List ListedRecording → FileChannel → List ChannelSetupData
+abbrev pub name_by_table : List RecordingSettings → List ListedRecording → FileChannel
+    → List ChannelSetupData
 name_by_table (recording ∷ recordings) (listed ∷ all) channel =
     said_first (if listed.run == channel.of.run then said_in_table channel recording else [])
     (name_by_table recordings all channel)
@@ -67,7 +69,8 @@ IsNameBy named (Some channel) = named ≡ channel_said channel ∷ []
 -- ---- what is read
 
 -- what is read at each place of a file whose bytes are said
-abbrev pub packets_there : {F : Type 0} → (held : F → Option (List ℕ)) → FilePackets F → Option PacketPlaces
+abbrev pub packets_there : {F : Type 0} → (held : F → Option (List ℕ)) → FilePackets F
+    → Option PacketPlaces
 packets_there held packets = option_map places_of (held packets.file.now)
 
 -- each file says that it has these bytes
@@ -80,15 +83,17 @@ AreHeld held files recordings = ⊥
 -- each recording has these packets, and is read to its end
 abbrev pub AreReadings : List (List ℕ) → List (List PacketData) → Type 0
 AreReadings [] [] = Unit {0}
-AreReadings (recording ∷ recordings) (packets ∷ more) = Reads recording packets None × AreReadings recordings more
+AreReadings (recording ∷ recordings) (packets ∷ more) =
+    Reads recording packets None × AreReadings recordings more
 AreReadings recordings more = ⊥
 
--- a recording is moved by its own clock to the clock of the file, and to its channels that are of its run, with the
--- numbers of records that were found for it
+-- a recording is moved by its own clock to the clock of the file, and to its channels that are of
+-- its run, with the numbers of records that were found for it
 abbrev pub is_of_run : (run : ℕ) → FileChannel → Bool
 is_of_run run channel = channel.of.run == run
 
-pub record IsMovedBy (start : Origin) (channels : List FileChannel) (recording : RecordingSettings) (listed : ListedRecording) (moves : Moves)
+pub record IsMovedBy (start : Origin) (channels : List FileChannel) (recording : RecordingSettings)
+    (listed : ListedRecording) (moves : Moves)
     : Type 0 where
   pub start_is : moves.start ≡ start
   pub clock_is : moves.clock ≡ clock_said recording
@@ -97,10 +102,12 @@ pub record IsMovedBy (start : Origin) (channels : List FileChannel) (recording :
   pub records_are : moves.records.items ≡ listed.records.items
 
 -- each has the packets of its own file, and is moved by what is said of it
-abbrev pub AreMovedBy : {F : Type 0} → (held : F → Option (List ℕ)) → (start : Origin) → List FileChannel → List F
+abbrev pub AreMovedBy : {F : Type 0} → (held : F → Option (List ℕ)) → (start : Origin)
+    → List FileChannel → List F
     → List RecordingSettings → List ListedRecording → List (Part (FilePackets F)) → Type 0
 AreMovedBy held start channels [] [] [] [] = Unit {0}
-AreMovedBy held start channels (file ∷ files) (recording ∷ recordings) (listed ∷ all) (part ∷ parts) =
+AreMovedBy held start channels (file ∷ files) (recording ∷ recordings) (listed ∷ all)
+    (part ∷ parts) =
     (packets_there held part.packets ≡ option_map places_of (held file))
     × IsMovedBy start channels recording listed part.moves
     × AreMovedBy held start channels files recordings all parts

@@ -1,8 +1,11 @@
 -- Where a recording isn't a part of its run, by its audit.
-use Rattle.std.specs.Prelude.{ℕ, ◌≡◌, ◌≢◌, ◌==◌, ◌⊎◌, Bool, List, [], ◌∷◌, ◌++◌, Option, None, Some, Result, Ok, Err}
+use Rattle.std.specs.Prelude.{ℕ, ◌≡◌, ◌≢◌, ◌==◌, ◌⊎◌, Bool, List, [], ◌∷◌, ◌++◌, Option, None, Some}
+use Rattle.std.specs.Prelude.{Result, Ok, Err}
 use Rattle.rec_reader.specs.declared.audits.answer.Audit.{Audit}
 use Rattle.rec_reader.specs.declared.audits.answer.AuditFault.{AuditFault}
-use Rattle.rec_reader.specs.declared.audits.answer.AuditFault.TheVariants.{NoProgram, BadProgram, NotAccepted, Order, NoEnd, Counts, Memory}
+use Rattle.rec_reader.specs.declared.audits.answer.AuditFault.TheVariants.{NoProgram, BadProgram}
+use Rattle.rec_reader.specs.declared.audits.answer.AuditFault.TheVariants.{NotAccepted, Order}
+use Rattle.rec_reader.specs.declared.audits.answer.AuditFault.TheVariants.{NoEnd, Counts, Memory}
 use Rattle.rec_reader.specs.declared.audits.auditor.Auditor.{Auditor}
 use Rattle.rec_reader.specs.Packets.{PacketData, packets_len}
 use Rattle.rec_reader.specs.Audits.{Audits, EachPasses}
@@ -14,7 +17,8 @@ use Rattle.cli_chapter11.specs.declared.run_records.Failed.{Failed}
 abbrev pub is_in_run : (run : ℕ) → ListedRecording → Bool
 is_in_run run listed = listed.run == run
 
--- each packet before the one at this place passes the audit, and of those up to it the audit answers this fault
+-- each packet before the one at this place passes the audit, and of those up to it the audit
+-- answers this fault
 pub record FailsItsAudit (packets : List PacketData) (fault : AuditFault) (at : ℕ) : Type 0 where
   pub before : List PacketData
   pub packet : PacketData
@@ -48,8 +52,10 @@ part_by_end (Err Memory) len = None
 -- there it isn't, by the first of its packets that fails, or by the audit of all
 abbrev pub IsPartOfRun : List PacketData → Option ℕ → Type 0
 IsPartOfRun packets part =
-    ((fault : AuditFault) × (at : ℕ) × FailsItsAudit packets fault at × (fault ≢ Memory) × (part ≡ part_by_fault fault at))
-    ⊎ (EachPasses packets × (answer : Result Audit AuditFault) × Audits packets answer × (answer ≢ Err Memory)
+    ((fault : AuditFault) × (at : ℕ) × FailsItsAudit packets fault at × (fault ≢ Memory)
+    × (part ≡ part_by_fault fault at))
+    ⊎ (EachPasses packets × (answer : Result Audit AuditFault) × Audits packets answer
+    × (answer ≢ Err Memory)
     × (part ≡ part_by_end answer (packets_len packets)))
 
 -- the first of the packets so far that fails, if one does; else the auditor stands for them

@@ -13,14 +13,16 @@ use Rattle.cli_chapter11.specs.WholeFiles.{AreNamesOf, clock_said}
 
 -- the output grew by the stream of this recording by SETUP, of which these are the counts
 abbrev pub StreamsBySetup :
-    GeneralSettings → RecordingSettings → (bytes : List ℕ) → (before held : Option (List ℕ)) → StreamCounts → Type 0
+    GeneralSettings → RecordingSettings → (bytes : List ℕ) → (before held : Option (List ℕ))
+    → StreamCounts → Type 0
 StreamsBySetup general recording bytes before held counts =
     (names : FileNames) × AreNamesOf (general_data general) (recording_data recording) names
     × WritesStream names (clock_said recording) bytes before held counts
 
 -- the stream ended early for this reason. Memory may be out before there are names.
 abbrev pub StopsBySetup :
-    GeneralSettings → RecordingSettings → (bytes : List ℕ) → (before held : Option (List ℕ)) → StreamEnd → Type 0
+    GeneralSettings → RecordingSettings → (bytes : List ℕ) → (before held : Option (List ℕ))
+    → StreamEnd → Type 0
 StopsBySetup general recording bytes before held end =
     ((end ≡ Memory) × Appends before held [])
     ⊎ ((names : FileNames) × AreNamesOf (general_data general) (recording_data recording) names

@@ -22,7 +22,8 @@ abbrev pub channel_said : SetupChannel → ChannelSetupData
 channel_said channel = record { id = channel.id; name = channel.name.now; net = channel.net }
 
 -- the names of a whole file are those of SETUP
-pub record AreNamesOf (general : GeneralData) (recording : RecordingData) (names : FileNames) : Type 0 where
+pub record AreNamesOf (general : GeneralData) (recording : RecordingData)
+    (names : FileNames) : Type 0 where
   pub host : names.host.now ≡ general.host
   pub program : names.program.now ≡ general.program
   pub source : names.is_external ≡ general.is_external
@@ -35,14 +36,16 @@ clock_said recording = held_origins (started recording.origins.items)
 
 -- the output grew by the whole file of these packets by SETUP, of which these are the counts
 abbrev pub WritesBySetup :
-    GeneralSettings → RecordingSettings → List PacketData → (before held : Option (List ℕ)) → FileCounts → Type 0
+    GeneralSettings → RecordingSettings → List PacketData → (before held : Option (List ℕ))
+    → FileCounts → Type 0
 WritesBySetup general recording packets before held counts =
     (names : FileNames) × AreNamesOf (general_data general) (recording_data recording) names
     × WritesRecording packets names (clock_said recording) MOST_NAMED before held counts
 
 -- the file ended early for this reason. Memory may be out before there are names.
 abbrev pub FailsBySetup :
-    GeneralSettings → RecordingSettings → List PacketData → (before held : Option (List ℕ)) → WholeEnd → Type 0
+    GeneralSettings → RecordingSettings → List PacketData → (before held : Option (List ℕ))
+    → WholeEnd → Type 0
 FailsBySetup general recording packets before held end =
     ((end ≡ Memory) × Appends before held [])
     ⊎ ((names : FileNames) × AreNamesOf (general_data general) (recording_data recording) names

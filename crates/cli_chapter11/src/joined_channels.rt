@@ -74,8 +74,10 @@ fn is_from(place: usize, after: Option<usize>) -> bool
 /// of its run, by what stands first in it.
 pub(crate) fn refuse_first(all: &[ListedRecording]) -> Result<(), CommandEnding<'static>>
     ensures { MatchResult result
-        (λ _. (place : ℕ) → place < length all.now → get_or (map listed_refusal all.now) place None ≡ None)
-        (λ ending. (place : ℕ) × (refusal : ListedRefusal) × IsFirstRefusal (map listed_refusal all.now) place refusal
+        (λ _. (place : ℕ) → place < length all.now
+        → get_or (map listed_refusal all.now) place None ≡ None)
+        (λ ending. (place : ℕ) × (refusal : ListedRefusal)
+        × IsFirstRefusal (map listed_refusal all.now) place refusal
         × (ending ≡ ending_listed refusal place)) }
 {
     'recordings: for place in 0..all.len() {
@@ -88,7 +90,8 @@ pub(crate) fn refuse_first(all: &[ListedRecording]) -> Result<(), CommandEnding<
 
 /// Why the recording at this place can't be in a file, if it can't.
 fn refusal_of(listed: &ListedRecording, place: usize) -> Option<CommandEnding<'static>>
-    ensures { result ≡ option_map (λ refusal. ending_listed refusal place) (listed_refusal listed.now) }
+    ensures { result ≡ option_map (λ refusal. ending_listed refusal place)
+        (listed_refusal listed.now) }
 {
     let Some(part) = listed.part else {
         return match listed.other {
@@ -133,8 +136,10 @@ pub(crate) fn channels_in(
     alloc: Global,
     all: &[ListedRecording],
 ) -> Result<JoinedChannels, CommandEnding<'static>>
-    ensures numbered { IfOk result (λ file. AreNumberedChannels (all_listed_channels all.now) file.channels.items) }
-    ensures time { IfOk result (λ file. IsLeastFree (is_id_of file.channels.items) file.time_channel) }
+    ensures numbered { IfOk result
+        (λ file. AreNumberedChannels (all_listed_channels all.now) file.channels.items) }
+    ensures time { IfOk result
+        (λ file. IsLeastFree (is_id_of file.channels.items) file.time_channel) }
     ensures fault { IfErr result (λ ending. (ending ≡ Memory)
         ⊎ ((ending ≡ Joined Full 0) × IsFull (all_listed_channels all.now))) }
 {
@@ -154,7 +159,8 @@ pub(crate) fn channels_in(
 
 /// What the recordings name.
 fn named_in<'l>(alloc: Global, all: &'l [ListedRecording]) -> Result<Vec<NamedIds<'l>>, AllocError>
-    ensures { IfOk result (λ named. flat_map named_by_recording named.items ≡ all_listed_channels all.entry.now) }
+    ensures { IfOk result
+        (λ named. flat_map named_by_recording named.items ≡ all_listed_channels all.entry.now) }
 {
     let mut named = Vec::new(alloc);
     'recordings: for listed in all {

@@ -63,8 +63,10 @@ fn write_once<F: PlacedRead, W: Write + Drop>(
     output: W,
 ) -> Result<(Seen, W), WholeEnd>
     ensures { MatchResult result
-        (λ wrote. WritesJoined (packets_there F.held) file.now (W.contents output) (W.contents wrote.1) wrote.0.counts)
-        (λ end. (last : W) × FailsJoined (packets_there F.held) file.now (W.contents output) (W.contents last) end) }
+        (λ wrote. WritesJoined (packets_there F.held) file.now (W.contents output)
+        (W.contents wrote.1) wrote.0.counts)
+        (λ end. (last : W) × FailsJoined (packets_there F.held) file.now (W.contents output)
+        (W.contents last) end) }
 {
     let attributes = attributes_of(alloc, file.general.attributes.as_slice())?;
     let clock = Clock::new(alloc, &[file.start])?;

@@ -172,7 +172,8 @@ fn name_in_run<'a>(
     listed: &ListedRecording,
     channel: &FileChannel,
 ) -> Option<SetupChannel<'a>>
-    ensures { IsNameBy (if listed.now.run == channel.now.of.run then said_in_table channel.now recording.entry.now else []) result }
+    ensures { IsNameBy (if listed.now.run == channel.now.of.run
+        then said_in_table channel.now recording.entry.now else []) result }
 {
     if listed.run != channel.of.run {
         return None;

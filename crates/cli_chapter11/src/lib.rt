@@ -9,7 +9,6 @@ mod files;
 mod joined_channels;
 mod joined_file;
 mod joining;
-mod laws;
 mod passes;
 mod run_records;
 mod several;
@@ -20,6 +19,5 @@ mod whole_file;
 mod writing;
 
 pub use command::write_chapter11;
-pub use laws::a_joined_file_keeps_each_channel;
 pub use several::write_joined;
 pub use stream::stream_chapter11;

@@ -140,7 +140,8 @@ fn read_part<R: Read>(
 ) -> Result<Option<u64>, PartEnd>
     ensures { IfOk result (λ part. (recording : List ℕ) → HasRead recording [] reader.old
         → (own : List PacketData) × Reads recording own None × IsPartOfRun own part
-        × ((earlier : List (List PacketData)) → RunStandsFor records.old earlier [] → RunStandsFor records.new earlier own)) }
+        × ((earlier : List (List PacketData)) → RunStandsFor records.old earlier []
+        → RunStandsFor records.new earlier own)) }
 {
     let mut auditor = Auditor::new(alloc);
     let mut failed = None;
@@ -190,7 +191,8 @@ fn judged(auditor: &mut Auditor, packet: &Packet<'_>, failed: Option<Failed>) ->
 
 /// Where a recording of so many bytes isn't a part of its run.
 fn part_by(auditor: Auditor, failed: Option<Failed>, end: u64) -> Result<Option<u64>, PartEnd>
-    ensures { IfOk result (λ part. (packets : List PacketData) → IsJudgedSoFar packets auditor failed
+    ensures { IfOk result (λ part. (packets : List PacketData)
+        → IsJudgedSoFar packets auditor failed
         → end ≡ packets_len packets → IsPartOfRun packets part) }
 {
     let Some(failed) = failed else {

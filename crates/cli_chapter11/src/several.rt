@@ -1,6 +1,8 @@
 //! The command, of several recordings.
 
-ghost use Rattle.std.specs.Prelude.{ℕ, ◌≡◌, ◌<◌, Err, IfOk, length, map};
+ghost use Rattle.std.specs.Prelude.{ℕ, ◌≡◌, ◌<◌, List, Option, Err, IfOk, length, map};
+ghost use Rattle.std.specs.Io.KnownBytes.{Keeps};
+ghost use Rattle.std.specs.Io.Buffered.{writer_contents};
 ghost use Rattle.cli_chapter11.specs.declared.joining.JoinFault.{JoinFault};
 ghost use Rattle.cli_chapter11.specs.declared.several.JoinedEnd.TheVariants.{Joining};
 ghost use Rattle.rec_joined.specs.declared.fault.MoveFault.TheVariants.{Gap, Sum};
@@ -11,6 +13,7 @@ ghost use Rattle.cli_streams.specs.declared.run_refusal.RunRefusal.TheVariants.{
 ghost use Rattle.cli_streams.specs.OwnPlaces.{IsJoinedRefusal};
 ghost use Rattle.cli_chapter11.specs.declared.writing.WriteEnd.TheVariants.{Refused};
 ghost use Rattle.cli_chapter11.specs.Joining.{end_of_part};
+ghost use Rattle.cli_chapter11.specs.JoinedFiles.{WritesRecordings};
 
 use crate::command::{NamedOut, print_counts};
 use crate::files::{listing_of, open_recording, setup_in};
@@ -86,7 +89,8 @@ enum JoinedEnd<E> {
     Writing { end: WriteEnd<E>, ends: Vec<u64> },
 }
 
-/// Writes the whole file of recordings, each of which has a table and a run.
+/// Writes the whole file of recordings, each of which has a table and a run: what OUT took is the whole file of their
+/// packets, as they become by what SETUP and the listing say.
 fn write_whole<F: PlacedRead, O: Uncreated>(
     alloc: Global,
     files: &[F],
@@ -98,7 +102,12 @@ fn write_whole<F: PlacedRead, O: Uncreated>(
 ) -> Result<(FileCounts, BufWriter<O::File>), JoinedEnd<O::Fault>>
     requires tables { length settings.now.recordings.items ≡ length files.now }
     requires listed { length all.now ≡ length files.now }
-    ensures place { (fault : JoinFault) → result ≡ Err (Joining fault) → fault.place < length files.now }
+    ensures place { (fault : JoinFault) → result ≡ Err (Joining fault)
+        → fault.place < length files.now }
+    ensures written { IfOk result (λ written. (held : Option (List ℕ))
+        × WritesRecordings F.held files.now settings.now all.now channels.now start
+        (O.held out.old) held written.0
+        × Keeps held (writer_contents O.File.contents written.1)) }
 {
     let joined = match join_in(alloc, files, &settings.recordings, all, channels, start) {
         Ok(joined) => joined,
@@ -148,7 +157,8 @@ where
     R::File: LockFile + PlacedRead,
     ensures files { IfOk result (λ all. length all.files.items ≡ length recordings.entry.now) }
     ensures listed { IfOk result (λ all. length all.all.items ≡ length recordings.entry.now) }
-    ensures tables { IfOk result (λ all. length all.settings.recordings.items ≡ length recordings.entry.now) }
+    ensures tables { IfOk result
+        (λ all. length all.settings.recordings.items ≡ length recordings.entry.now) }
 {
     let alloc = rt.alloc();
     refuse_many(alloc, recordings.len())?;
@@ -178,7 +188,8 @@ fn ending_of<'a, F: PlacedRead>(
     ends: &[u64],
     end: WriteEnd<CommandEnding<'a>>,
 ) -> CommandEnding<'a>
-    ensures { (refusal : WholeRefusal) → end.entry ≡ Refused refusal → IsJoinedRefusal ends.now refusal result }
+    ensures { (refusal : WholeRefusal) → end.entry ≡ Refused refusal
+        → IsJoinedRefusal ends.now refusal result }
 {
     match end {
         WriteEnd::Refused(refusal) => CommandEnding::of_joined(refusal, ends),
@@ -192,7 +203,8 @@ fn ending_of<'a, F: PlacedRead>(
 /// How the command ends where a recording isn't joined.
 fn ending_of_joining<'a>(names: &'a [String], fault: JoinFault) -> CommandEnding<'a>
     requires { fault.place < length names.now }
-    ensures gap { (at : ℕ) → fault.end ≡ Packet Gap at → result ≡ JoinedRefusal (HasGap at) fault.place }
+    ensures gap { (at : ℕ) → fault.end ≡ Packet Gap at
+        → result ≡ JoinedRefusal (HasGap at) fault.place }
     ensures sum { (at : ℕ) → fault.end ≡ Packet Sum at → result ≡ InRun (HasSum at) fault.place }
 {
     let JoinFault { end, place } = fault;

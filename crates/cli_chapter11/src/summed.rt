@@ -45,7 +45,8 @@ impl<W: Write + Drop> Write for Summed<W> {
 
     fn write(&mut self, buf: &[u8]) -> io::Result<usize>
         ensures bound { WritesAtMost result buf.now }
-        ensures bytes { WriteAppends (W.contents self.old.out) (W.contents self.new.out) result buf.now }
+        ensures bytes { WriteAppends (W.contents self.old.out)
+            (W.contents self.new.out) result buf.now }
         ensures summed { IfOk result (λ n. self.new.sum.sum
             ≡ sum_behind self.old.sum.sum (take n buf.now)) }
         ensures same { OnErr result (self.new.sum ≡ self.old.sum) }

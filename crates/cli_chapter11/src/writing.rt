@@ -38,7 +38,8 @@ pub(crate) fn judged_then_written<P: Passes, O: Uncreated>(
     whole: &mut P,
     out: &mut O,
 ) -> Result<(FileCounts, BufWriter<O::File>), WriteEnd<O::Fault>>
-    ensures unchanged { (refusal : WholeRefusal) → result ≡ Err (Refused refusal) → out.new ≡ out.old }
+    ensures unchanged { (refusal : WholeRefusal) → result ≡ Err (Refused refusal)
+        → out.new ≡ out.old }
     ensures refused { (refusal : WholeRefusal) → result ≡ Err (Refused refusal)
         → P.fails whole.old None None (IsRefused refusal) }
     ensures written { IfOk result (λ written. (held : Option (List ℕ))

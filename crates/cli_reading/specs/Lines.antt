@@ -12,8 +12,8 @@ use Rattle.rec_reader.specs.Upgrades.{counted_with}
 use Rattle.cli_streams.specs.Digits.{SaysNumber}
 use Rattle.cli_reading.specs.Written.{IsCounted}
 
--- how many frames were written into the feed, and how many of the channel were passed over, since no
--- feed can have them
+-- how many frames were written into the feed, and how many of the channel were passed over, since
+-- no feed can have them
 abbrev pub extracted_line : ℕ → ℕ → List ℕ
 extracted_line frames passed =
     codes "frames " ++ (decimal frames ++ (codes " passed " ++ (decimal passed ++ (10 ∷ []))))

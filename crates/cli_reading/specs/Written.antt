@@ -9,7 +9,8 @@ use Rattle.rec_reader.specs.Reading.{Reads}
 use Rattle.cli_reading.specs.Counts.{CountsPackets}
 use Rattle.cli_reading.specs.declared.reading.Counts.{Counts}
 
--- after the packets that a reader had given of some bytes it gives the next of them, or there is none
+-- after the packets that a reader had given of some bytes it gives the next of them, or there is
+-- none
 abbrev pub GivesNext : Option PacketData → (old new : ReaderState) → Type 0
 GivesNext taken old new =
     (bytes : List ℕ) (packets : List PacketData) → HasRead bytes packets old

@@ -68,7 +68,8 @@ fn print_audit<O: Write>(
 
 /// Prints the line of a channel.
 fn print_channel<O: Write>(output: &mut O, line: &AuditLine) -> io::Result<()>
-    ensures { OnOk result (Appends (O.contents output.old) (O.contents output.new) (audit_line line.now)) }
+    ensures { OnOk result
+        (Appends (O.contents output.old) (O.contents output.new) (audit_line line.now)) }
 {
     let AuditLine {
         channel,

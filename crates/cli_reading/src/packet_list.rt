@@ -149,7 +149,8 @@ fn print_what<W: Write>(lines: &mut W, what: What) -> io::Result<()>
 
 /// Prints a packet's place and its header's fields.
 fn print_header<W: Write>(lines: &mut W, at: u64, header: Header) -> io::Result<()>
-    ensures { OnOk result (Appends (W.contents lines.old) (W.contents lines.new) (header_text at header)) }
+    ensures { OnOk result
+        (Appends (W.contents lines.old) (W.contents lines.new) (header_text at header)) }
 {
     let Header {
         channel,
@@ -184,7 +185,8 @@ fn print_kind<W: Write>(lines: &mut W, kind: u8) -> io::Result<()>
 /// Prints numbers, each with a blank behind it. One at a time: the proof of a text with more values
 /// takes several times as long.
 fn print_numbers<W: Write>(lines: &mut W, numbers: &[u64]) -> io::Result<()>
-    ensures { OnOk result (Appends (W.contents lines.old) (W.contents lines.new) (numbers_text numbers.now)) }
+    ensures { OnOk result
+        (Appends (W.contents lines.old) (W.contents lines.new) (numbers_text numbers.now)) }
 {
     'numbers: for number in numbers {
         write!(lines, "{number} ")?;

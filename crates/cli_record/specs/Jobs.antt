@@ -1,5 +1,6 @@
 -- What is to be recorded of channels, by their settings.
-use Rattle.std.specs.Prelude.{ℕ, ◌≡◌, ◌==◌, not, Bool, if◌then◌else◌, List, map, Option, None, Some, IfSome, string_bytes}
+use Rattle.std.specs.Prelude.{ℕ, ◌≡◌, ◌==◌, not, Bool, if◌then◌else◌, List, map, Option, None, Some}
+use Rattle.std.specs.Prelude.{IfSome, string_bytes}
 use Rattle.std.specs.Arc.{arc_value}
 use Rattle.bpf_insn.specs.declared.insn.Insn.{Insn}
 use Rattle.eth_frame.specs.Source.{Left}
@@ -34,12 +35,14 @@ module _ {S : Type 0} where
   abbrev pub numbers_of_jobs : List (Job S) → List JobNumbers
   numbers_of_jobs jobs = map job_numbers jobs
 
--- the program of a job is that of the filter which the channel's settings name, and its source has what their
--- feed has, where this is said
+-- the program of a job is that of the filter which the channel's settings name, and its source has
+-- what their feed has, where this is said
 module _ {C S : Type 0} (listed : C → (name : List ℕ) → Option (List Insn))
-    (fed : C → (name : List ℕ) → (max : ℕ) → (timed : Bool) → Option Left) (left : S → Option Left) where
+    (fed : C → (name : List ℕ) → (max : ℕ) → (timed : Bool) → Option Left) (left : S
+    → Option Left) where
   pub record IsJobOf (files : C) (channel : ChannelSettings) (job : Job S) : Type 0 where
     pub program : IfSome (listed files (string_bytes channel.filter))
         (λ (insns : List Insn). arc_value job.program ≡ insns)
-    pub source : IfSome (fed files (string_bytes channel.feed) channel.max (not (channel.span == 0)))
+    pub source : IfSome (fed files (string_bytes channel.feed) channel.max
+        (not (channel.span == 0)))
         (λ (it : Left). left job.source ≡ Some it)

@@ -3,9 +3,12 @@ use Rattle.std.specs.Prelude.{ℕ, codes, List, [], ◌∷◌, ◌++◌, length}
 use Rattle.std.specs.List.{flat_map}
 use Rattle.std.specs.Fmt.{decimal}
 use Rattle.eth_frame.specs.declared.source.SourceFault.{SourceFault}
-use Rattle.eth_frame.specs.declared.source.SourceFault.TheVariants.{Truncated, Length, Marks, Device}
+use Rattle.eth_frame.specs.declared.source.SourceFault.TheVariants.{Truncated, Length, Marks}
+use Rattle.eth_frame.specs.declared.source.SourceFault.TheVariants.{Device}
 use Rattle.rec_run.specs.declared.ending.Ending.{Ending}
-use Rattle.rec_run.specs.declared.ending.Ending.TheVariants.{SourceEnd, SourceFault as FaultOfSource, Memory, CountFull, Stopped}
+use Rattle.rec_run.specs.declared.ending.Ending.TheVariants.{SourceEnd}
+use Rattle.rec_run.specs.declared.ending.Ending.TheVariants.{SourceFault as FaultOfSource, Memory}
+use Rattle.rec_run.specs.declared.ending.Ending.TheVariants.{CountFull, Stopped}
 use Rattle.rec_run.specs.declared.report.ChannelReport.{ChannelReport}
 
 -- ---- how a channel ended
@@ -34,12 +37,14 @@ channel_line id versions offered kept ending =
 
 -- how many packets were written, and their bytes
 abbrev pub wrote_line : (pieces bytes : ℕ) → List ℕ
-wrote_line pieces bytes = codes "wrote " ++ (decimal pieces ++ (codes " " ++ (decimal bytes ++ (10 ∷ []))))
+wrote_line pieces bytes =
+    codes "wrote " ++ (decimal pieces ++ (codes " " ++ (decimal bytes ++ (10 ∷ []))))
 
 module _ {S : Type 0} where
   abbrev pub report_line : ChannelReport S → List ℕ
   report_line channel =
-      channel_line channel.channel (length channel.versions.items) channel.offered channel.kept channel.ending
+      channel_line channel.channel
+      (length channel.versions.items) channel.offered channel.kept channel.ending
 
   -- a line for each channel, and one of all
   abbrev pub report_lines : List (ChannelReport S) → (pieces bytes : ℕ) → List ℕ

@@ -31,7 +31,8 @@ pub(crate) fn print_report<S: Drop, O: Write>(
 
 /// Prints a channel's line.
 fn print_channel<S: Drop, O: Write>(output: &mut O, channel: &ChannelReport<S>) -> io::Result<()>
-    ensures { OnOk result (Appends (O.contents output.old) (O.contents output.new) (report_line channel.now)) }
+    ensures { OnOk result
+        (Appends (O.contents output.old) (O.contents output.new) (report_line channel.now)) }
 {
     let ChannelReport {
         channel: id,
@@ -51,7 +52,8 @@ fn print_channel<S: Drop, O: Write>(output: &mut O, channel: &ChannelReport<S>) 
 
 /// Prints how a channel ended, which ends its line.
 fn print_ending<O: Write>(output: &mut O, ending: Ending) -> io::Result<()>
-    ensures { OnOk result (Appends (O.contents output.old) (O.contents output.new) (ending_text ending ++ 10 ∷ [])) }
+    ensures { OnOk result
+        (Appends (O.contents output.old) (O.contents output.new) (ending_text ending ++ 10 ∷ [])) }
 {
     match ending {
         Ending::SourceEnd => writeln!(output, "SourceEnd"),

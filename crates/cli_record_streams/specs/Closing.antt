@@ -8,8 +8,8 @@ use Rattle.eth_frame.specs.declared.source.SourceEnding.TheVariants.{End}
 use Rattle.cli_record_streams.specs.declared.closing.Held.{Held}
 use Rattle.cli_record_streams.specs.declared.closing.Held.TheVariants.{Open, Closed}
 
--- the first frames of what is left, `max` at most, and the time marks before the last of them; after
--- them its ending, where there were fewer, else an end
+-- the first frames of what is left, `max` at most, and the time marks before the last of them;
+-- after them its ending, where there were fewer, else an end
 abbrev pub at_most : ℕ → Left → Left
 at_most max left = record {
   frames = take max left.frames;

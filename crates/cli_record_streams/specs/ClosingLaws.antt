@@ -1,6 +1,7 @@
--- The laws of a source that closes what it reads from, proved: nothing is left once it has ended, and
--- it ends by a failure only once the device has failed.
-use Rattle.std.specs.Prelude.{ℕ, ◌≡◌, ◌<◌, ◌+◌, nat_lt, Bool, true, false, length, Option, None, Some, IfSome, refl}
+-- The laws of a source that closes what it reads from, proved: nothing is left once it has ended,
+-- and it ends by a failure only once the device has failed.
+use Rattle.std.specs.Prelude.{ℕ, ◌≡◌, ◌<◌, ◌+◌, nat_lt, Bool, true, false, length, Option, None}
+use Rattle.std.specs.Prelude.{Some, IfSome, refl}
 use Rattle.std.specs.Option.{option_map}
 use Rattle.std.proofs.Common.{sym, ap, subst}
 use Rattle.std.proofs.lemmas.Bool.{cond_both, false≢true}

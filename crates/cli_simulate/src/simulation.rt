@@ -174,7 +174,8 @@ fn print_reply<O: Write>(output: &mut O, reply: Reply, out: &[u8]) -> io::Result
 
 /// Prints which piece was sent.
 fn print_sent<O: Write>(output: &mut O, which: Which) -> io::Result<()>
-    ensures { OnOk result (Appends (O.contents output.old) (O.contents output.new) (sent_text which)) }
+    ensures { OnOk result
+        (Appends (O.contents output.old) (O.contents output.new) (sent_text which)) }
 {
     match which {
         Which::Program(version) => writeln!(output, "sent program {version}"),
@@ -192,7 +193,8 @@ fn last_bytes(bytes: &[u8], count: usize) -> &[u8]
 
 /// Prints a packet in hexadecimal digits.
 fn print_packet<O: Write>(output: &mut O, packet: &[u8]) -> io::Result<()>
-    ensures { OnOk result (Appends (O.contents output.old) (O.contents output.new) (packet_text packet.now)) }
+    ensures { OnOk result
+        (Appends (O.contents output.old) (O.contents output.new) (packet_text packet.now)) }
 {
     write!(output, "wrote ")?;
     'bytes: for byte in packet {
@@ -204,7 +206,8 @@ fn print_packet<O: Write>(output: &mut O, packet: &[u8]) -> io::Result<()>
 /// Prints a byte in two hexadecimal digits.
 #[tactic(auto, using(std::proofs::lemmas::Fmt::hex_byte))]
 fn print_byte<O: Write>(output: &mut O, byte: u8) -> io::Result<()>
-    ensures { OnOk result (Appends (O.contents output.old) (O.contents output.new) (byte_text byte)) }
+    ensures { OnOk result
+        (Appends (O.contents output.old) (O.contents output.new) (byte_text byte)) }
 {
     write!(output, "{byte:02x}")
 }

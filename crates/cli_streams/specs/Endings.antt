@@ -7,8 +7,8 @@ use Rattle.rec_reader.specs.declared.fault.ReadFaultKind.TheVariants.{Memory as 
 use Rattle.cli_streams.specs.declared.ending.CommandEnding.{CommandEnding}
 use Rattle.cli_streams.specs.declared.ending.CommandEnding.TheVariants.{File, Reading, Memory}
 
--- by the kind of its end: want of memory is that, a failed input is the file's fault, and all else the
--- recording's
+-- by the kind of its end: want of memory is that, a failed input is the file's fault, and all else
+-- the recording's
 abbrev pub ending_by_kind : (path : Bor (List ℕ)) → ReadEnd → ReadFaultKind → CommandEnding
 ending_by_kind path end NoMemory = Memory
 ending_by_kind path end Device = File path
@@ -23,7 +23,8 @@ abbrev pub IfReading : CommandEnding → (ReadEnd → Type 0) → Type 0
 IfReading (Reading end) P = P end
 IfReading ending P = Unit {0}
 
--- a command ends so where standard output fails: as for a fault of the file `-`, or for want of memory
+-- a command ends so where standard output fails: as for a fault of the file `-`, or for want of
+-- memory
 abbrev pub IsPrintingFault : CommandEnding → Type 0
 IsPrintingFault (File path) = path.now ≡ codes "-"
 IsPrintingFault Memory = Unit {0}

@@ -1,16 +1,20 @@
 -- Refusals of several recordings, with places in the recording that they are of.
-use Rattle.std.specs.Prelude.{ℕ, zero, suc, ◌≡◌, ◌⊎◌, ◌+◌, ◌<◌, ◌≤◌, List, length, get_or, Option, None, Some}
+use Rattle.std.specs.Prelude.{ℕ, zero, suc, ◌≡◌, ◌⊎◌, ◌+◌, ◌<◌, ◌≤◌, List, length, get_or, Option}
+use Rattle.std.specs.Prelude.{None, Some}
 use Rattle.rec_whole.specs.declared.refusal.WholeRefusal.{WholeRefusal}
-use Rattle.rec_whole.specs.declared.refusal.WholeRefusal.TheVariants.{Other, Disorder, Gap, Origin, Year, Full}
+use Rattle.rec_whole.specs.declared.refusal.WholeRefusal.TheVariants.{Other, Disorder, Gap, Origin}
+use Rattle.rec_whole.specs.declared.refusal.WholeRefusal.TheVariants.{Year, Full}
 use Rattle.cli_streams.specs.declared.ending.CommandEnding.{CommandEnding}
-use Rattle.cli_streams.specs.declared.ending.CommandEnding.TheVariants.{Reading, Whole, Joined, JoinedReading}
+use Rattle.cli_streams.specs.declared.ending.CommandEnding.TheVariants.{Reading, Whole, Joined}
+use Rattle.cli_streams.specs.declared.ending.CommandEnding.TheVariants.{JoinedReading}
 
 -- where a recording begins in the joined one, of which each ends where it is said
 abbrev pub start_by : (ends : List ℕ) → (place : ℕ) → ℕ
 start_by ends zero = 0
 start_by ends (suc place) = get_or ends place 0
 
--- what stands there in the joined recording stands there in the one at a place, the first that ends behind it
+-- what stands there in the joined recording stands there in the one at a place, the first that ends
+-- behind it
 pub record IsOwnPlace (ends : List ℕ) (at place own : ℕ) : Type 0 where
   pub is_one : place < length ends
   pub behind : at < get_or ends place 0
@@ -43,7 +47,8 @@ refused_as Full at = Full
 abbrev pub IsJoinedAt : (ends : List ℕ) → WholeRefusal → (at : Option ℕ) → CommandEnding → Type 0
 IsJoinedAt ends refusal None ending = ending ≡ Joined refusal 0
 IsJoinedAt ends refusal (Some at) ending =
-    ((place : ℕ) × (own : ℕ) × IsOwnPlace ends at place own × (ending ≡ Joined (refused_as refusal own) place))
+    ((place : ℕ) × (own : ℕ) × IsOwnPlace ends at place own
+    × (ending ≡ Joined (refused_as refusal own) place))
     ⊎ IsBehindAll ends at
 
 abbrev pub IsJoinedRefusal : (ends : List ℕ) → WholeRefusal → CommandEnding → Type 0

@@ -176,8 +176,26 @@ impl<'a> CommandEnding<'a> {
 
     /// Prints the text and gives the exit status. A refusal of the verifier, of the audit or of a whole
     /// file is an answer and goes to `output` as one write; all else goes to `errors`, where a failed
-    /// write is passed over.
-    pub fn report<O: Write, E: Write>(self, alloc: Global, output: &mut O, errors: &mut E) -> u8
+    /// write is passed over. Where `explains`, a line on what it means and what to do follows there.
+    pub fn report<O: Write, E: Write>(
+        self,
+        alloc: Global,
+        output: &mut O,
+        errors: &mut E,
+        explains: bool,
+    ) -> u8
+        ensures nonzero { 0 < result }
+    {
+        let hint = if explains { self.hint() } else { None };
+        let status = self.report_text(alloc, output, errors);
+        if let Some(hint) = hint {
+            let _ = writeln!(errors, "bpfrec: {hint}");
+        }
+        status
+    }
+
+    /// Prints the text, and gives the exit status.
+    fn report_text<O: Write, E: Write>(self, alloc: Global, output: &mut O, errors: &mut E) -> u8
         ensures nonzero { 0 < result }
     {
         if !matches!(

@@ -6,6 +6,7 @@ mod channel_word;
 mod created;
 mod ending;
 mod forced;
+mod hint;
 mod input;
 mod inputs;
 mod listed;

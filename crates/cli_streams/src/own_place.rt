@@ -8,7 +8,8 @@ use rec_whole::WholeRefusal;
 /// Where a place of the joined recording stands: the place of the recording that has it, and the place there. Each
 /// recording ends where it is said. `None` where none has it.
 pub(crate) fn own_place(ends: &[u64], at: u64) -> Option<(usize, u64)>
-    ensures { MatchOption result (IsBehindAll ends.now at) (λ own. IsOwnPlace ends.now at own.0 own.1) }
+    ensures { MatchOption result (IsBehindAll ends.now at)
+        (λ own. IsOwnPlace ends.now at own.0 own.1) }
 {
     let mut start = 0;
     'ends: for place in 0..ends.len() {

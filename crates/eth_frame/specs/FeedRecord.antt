@@ -1,6 +1,7 @@
 -- One record of a feed: the frame's counter in 6 bytes, its marks in 1, its length in 2, and then
 -- its bytes. A number's lowest byte comes first.
-use Rattle.std.specs.Prelude.{ℕ, ◌+◌, ◌==◌, Bool, true, false, not, ◌||◌, ◌&&◌, if◌then◌else◌, nat_lt, List, ◌∷◌, ◌++◌, length}
+use Rattle.std.specs.Prelude.{ℕ, ◌+◌, ◌==◌, Bool, true, false, not, ◌||◌, ◌&&◌, if◌then◌else◌}
+use Rattle.std.specs.Prelude.{nat_lt, List, ◌∷◌, ◌++◌, length}
 use Rattle.std.specs.Prelude.{take, drop, slice_index, Option, None, Some, Result, Ok, Err, bit_and}
 use Rattle.std.specs.Int.{w16, to_le_bytes, bytes_low_first}
 use Rattle.eth_frame.specs.Bytes.{u16_at, u48_at}
@@ -55,10 +56,12 @@ has_crc_error marks = not (bit_and marks 1 == 0)
 abbrev pub has_frame_error : ℕ → Bool
 has_frame_error marks = not (bit_and marks 2 == 0)
 
--- the counter of the time mark that the 9 bytes at the front are, if their marks and their length are 0
+-- the counter of the time mark that the 9 bytes at the front are, if their marks and their length
+-- are 0
 abbrev pub time_in : List ℕ → Option ℕ
 time_in bytes =
-    if (length_field bytes == 0) && (marks_field bytes == 0) then Some (counter_field bytes) else None
+    if (length_field bytes == 0)
+    && (marks_field bytes == 0) then Some (counter_field bytes) else None
 
 -- what is wrong with the 9 bytes at the front, the length first
 abbrev pub head_fault : List ℕ → Option SourceFault

@@ -1,7 +1,8 @@
 -- An Ethernet frame as a recorder keeps it: its counter, its two marks, and its bytes with the
 -- frame check sequence (IEEE 802.3).
 use Rattle.std.specs.Prelude.{ℕ, ◌-◌, ◌^◌, ◌<◌, ◌≤◌, Bool, List, length, take}
-use Rattle.eth_frame.specs.declared.frame.TheConstants.{MIN_FRAME_LEN, MAX_FRAME_LEN, CHECK_SEQUENCE_LEN}
+use Rattle.eth_frame.specs.declared.frame.TheConstants.{MIN_FRAME_LEN, MAX_FRAME_LEN}
+use Rattle.eth_frame.specs.declared.frame.TheConstants.{CHECK_SEQUENCE_LEN}
 
 -- a frame's counter, whether it came with a wrong check sequence or with another fault, and its
 -- bytes

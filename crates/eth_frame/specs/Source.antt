@@ -1,5 +1,6 @@
 -- What a source of frames still has to give, and what one call of it does to that.
-use Rattle.std.specs.Prelude.{ℕ, ◌≡◌, ◌+◌, ◌<◌, List, [], ◌∷◌, map, Option, None, Some, Result, Ok, Err, IfSome, IsSomeAnd}
+use Rattle.std.specs.Prelude.{ℕ, ◌≡◌, ◌+◌, ◌<◌, List, [], ◌∷◌, map, Option, None, Some, Result, Ok}
+use Rattle.std.specs.Prelude.{Err, IfSome, IsSomeAnd}
 use Rattle.eth_frame.specs.Frame.{FrameData}
 use Rattle.eth_frame.specs.declared.source.Next.{Next}
 use Rattle.eth_frame.specs.declared.source.Next.TheVariants as next

@@ -1,5 +1,6 @@
 -- A feed with time marks: their records stand among those of its frames.
-use Rattle.std.specs.Prelude.{ℕ, zero, suc, ◌≡◌, ◌-◌, ◌<◌, ◌^◌, Bool, true, false, List, [], ◌∷◌, ◌++◌, Option, None, Some}
+use Rattle.std.specs.Prelude.{ℕ, zero, suc, ◌≡◌, ◌-◌, ◌<◌, ◌^◌, Bool, true, false, List, [], ◌∷◌}
+use Rattle.std.specs.Prelude.{◌++◌, Option, None, Some}
 use Rattle.std.specs.List.{flat_map, AllByRecursion}
 use Rattle.std.specs.Option.{option_map}
 use Rattle.eth_frame.specs.declared.feed.head.TheConstants.{HEAD_LEN}
@@ -25,8 +26,8 @@ abbrev pub IsItem : FeedItem → Type 0
 IsItem (OfFrame frame) = IsFrame frame
 IsItem (OfTime counter) = counter < 2 ^ 48
 
--- the bytes are the records of these items, one after the other, and a rest with this ending, at whose
--- front no time mark stands
+-- the bytes are the records of these items, one after the other, and a rest with this ending, at
+-- whose front no time mark stands
 pub record TimedFeed (bytes : List ℕ) (items : List FeedItem) (ending : SourceEnding) : Type 0 where
   pub rest : List ℕ
   pub whole : bytes ≡ flat_map item_record items ++ rest

@@ -19,7 +19,8 @@ pub fn feed_has_one_reading()
         Feed bytes frames ending
         → left_of_feed bytes ≡ record { frames = frames; times = []; ending = ending } }
     ensures meant { (bytes : List ℕ) (frames : List FrameData) (ending : SourceEnding) →
-        AreBytes bytes → left_of_feed bytes ≡ record { frames = frames; times = []; ending = ending }
+        AreBytes bytes
+        → left_of_feed bytes ≡ record { frames = frames; times = []; ending = ending }
         → Feed bytes frames ending }
     ensures one { (bytes : List ℕ) (frames others : List FrameData) (ending other : SourceEnding) →
         Feed bytes frames ending → Feed bytes others other

@@ -4,8 +4,10 @@ use Rattle.std.specs.List.{flat_map}
 use Rattle.std.specs.Int.{w16, w32, w64, to_le_bytes}
 use Rattle.pcapng_blocks.specs.Bytes.{padding}
 use Rattle.pcapng_blocks.specs.Options.{OptionData, AreOptions, options_bytes}
-use Rattle.pcapng_blocks.specs.declared.block.TheConstants.{SECTION_HEADER, INTERFACE_DESCRIPTION, ENHANCED_PACKET}
-use Rattle.pcapng_blocks.specs.declared.block.TheConstants.{BYTE_ORDER_MAGIC, MAJOR_VERSION, MINOR_VERSION}
+use Rattle.pcapng_blocks.specs.declared.block.TheConstants.{SECTION_HEADER, INTERFACE_DESCRIPTION}
+use Rattle.pcapng_blocks.specs.declared.block.TheConstants.{ENHANCED_PACKET}
+use Rattle.pcapng_blocks.specs.declared.block.TheConstants.{BYTE_ORDER_MAGIC, MAJOR_VERSION}
+use Rattle.pcapng_blocks.specs.declared.block.TheConstants.{MINOR_VERSION}
 
 -- an interface: the link type of its packets, the greatest number of bytes that is captured of one
 -- (0: no limit), and its options
@@ -14,16 +16,16 @@ pub record InterfaceData : Type 0 where
   pub snap_len : ℕ
   pub options : List OptionData
 
--- a packet: the number of its interface in the section, its time in the interface's units, its bytes,
--- all of which are captured, and its options
+-- a packet: the number of its interface in the section, its time in the interface's units, its
+-- bytes, all of which are captured, and its options
 pub record CapturedData : Type 0 where
   pub interface : ℕ
   pub time : ℕ
   pub bytes : List ℕ
   pub options : List OptionData
 
--- a block: a section header without options, whose section has a length that isn't said; an interface
--- description; an enhanced packet
+-- a block: a section header without options, whose section has a length that isn't said; an
+-- interface description; an enhanced packet
 pub data BlockData : Type 0 where
   OfSection : BlockData
   OfInterface : InterfaceData → BlockData
@@ -37,8 +39,8 @@ framed kind body =
     to_le_bytes w32 kind ++ to_le_bytes w32 (length body + 12)
     ++ (body ++ to_le_bytes w32 (length body + 12))
 
--- the body of a section header: the byte-order magic, the version of the format, and -1 for a length
--- that isn't said
+-- the body of a section header: the byte-order magic, the version of the format, and -1 for a
+-- length that isn't said
 abbrev pub section_body : List ℕ
 section_body =
     to_le_bytes w32 BYTE_ORDER_MAGIC ++ to_le_bytes w16 MAJOR_VERSION
@@ -51,8 +53,8 @@ interface_body interface =
     to_le_bytes w16 interface.link_type ++ to_le_bytes w16 0
     ++ (to_le_bytes w32 interface.snap_len ++ options_bytes interface.options)
 
--- the body of an enhanced packet: the interface, the high and the low half of the time, the captured
--- and the original length, the bytes, padding, and the options
+-- the body of an enhanced packet: the interface, the high and the low half of the time, the
+-- captured and the original length, the bytes, padding, and the options
 abbrev pub packet_body : CapturedData → List ℕ
 packet_body packet =
     to_le_bytes w32 packet.interface ++ to_le_bytes w32 (packet.time / 2 ^ 32)

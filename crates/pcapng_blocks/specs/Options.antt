@@ -1,9 +1,10 @@
--- The options of a block (pcapng, Options): a list of fields, each with its code, its length and its
--- value, padded to 32 bits, and behind the last one the end of options.
+-- The options of a block (pcapng, Options): a list of fields, each with its code, its length and
+-- its value, padded to 32 bits, and behind the last one the end of options.
 use Rattle.std.specs.Prelude.{ℕ, ◌≢◌, ◌<◌, ◌^◌, List, [], ◌∷◌, ◌++◌, length}
 use Rattle.std.specs.List.{flat_map}
 use Rattle.std.specs.Int.{w16, w32, w64, to_le_bytes}
-use Rattle.pcapng_blocks.specs.declared.option.TheConstants.{COMMENT, PACKET_FLAGS, INTERFACE_NAME, TIME_RESOLUTION, FCS_LEN, TIME_OFFSET}
+use Rattle.pcapng_blocks.specs.declared.option.TheConstants.{COMMENT, PACKET_FLAGS, INTERFACE_NAME}
+use Rattle.pcapng_blocks.specs.declared.option.TheConstants.{TIME_RESOLUTION, FCS_LEN, TIME_OFFSET}
 use Rattle.pcapng_blocks.specs.Bytes.{padding}
 
 -- an option: its code and its value

@@ -1,14 +1,15 @@
--- Which blocks bytes hold, as a reader of pcapng finds them: by numbers at places, without the words
--- by which blocks are written.
-use Rattle.std.specs.Prelude.{ℕ, ◌≡◌, ◌≢◌, ◌+◌, ◌-◌, ◌*◌, ◌%◌, ◌≤◌, ◌⊎◌, ◌^◌, List, [], ◌∷◌, length, take, drop}
+-- Which blocks bytes hold, as a reader of pcapng finds them: by numbers at places, without the
+-- words by which blocks are written.
+use Rattle.std.specs.Prelude.{ℕ, ◌≡◌, ◌≢◌, ◌+◌, ◌-◌, ◌*◌, ◌%◌, ◌≤◌, ◌⊎◌, ◌^◌, List, [], ◌∷◌, length}
+use Rattle.std.specs.Prelude.{take, drop}
 use Rattle.pcapng_blocks.specs.Bytes.{u16_in, u32_in, u64_in, padded_len}
 use Rattle.pcapng_blocks.specs.Options.{OptionData}
 use Rattle.pcapng_blocks.specs.Blocks.{BlockData}
 use Rattle.pcapng_blocks.specs.Blocks.BlockData.{OfSection, OfInterface, OfPacket}
 
--- the bytes are these options: an option is its code, which isn't 0, its length, and as many bytes as
--- that says; the next one follows where a multiple of 4 bytes is full. They end with the bytes, or
--- where the code is 0
+-- the bytes are these options: an option is its code, which isn't 0, its length, and as many bytes
+-- as that says; the next one follows where a multiple of 4 bytes is full. They end with the bytes,
+-- or where the code is 0
 abbrev pub HoldsOptions : (bytes : List ℕ) → List OptionData → Type 0
 HoldsOptions bytes [] = (bytes ≡ []) ⊎ ((4 ≤ length bytes) × (u16_in bytes 0 ≡ 0))
 HoldsOptions bytes (option ∷ options) =

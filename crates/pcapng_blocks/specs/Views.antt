@@ -1,10 +1,13 @@
 -- The code's values as data.
 use Rattle.std.specs.Prelude.{List, map}
 use Rattle.pcapng_blocks.specs.declared.option.BlockOption.{BlockOption}
-use Rattle.pcapng_blocks.specs.declared.option.BlockOption.TheVariants.{Comment, InterfaceName, TimeResolution, FcsLen, TimeOffset, PacketFlags}
+use Rattle.pcapng_blocks.specs.declared.option.BlockOption.TheVariants.{Comment, InterfaceName}
+use Rattle.pcapng_blocks.specs.declared.option.BlockOption.TheVariants.{TimeResolution, FcsLen}
+use Rattle.pcapng_blocks.specs.declared.option.BlockOption.TheVariants.{TimeOffset, PacketFlags}
 use Rattle.pcapng_blocks.specs.declared.block.Block.{Block}
 use Rattle.pcapng_blocks.specs.declared.block.Block.TheVariants.{Section, Interface, Packet}
-use Rattle.pcapng_blocks.specs.Options.{OptionData, comment_option, name_option, resolution_option, fcs_len_option, offset_option, flags_option}
+use Rattle.pcapng_blocks.specs.Options.{OptionData, comment_option, name_option, resolution_option}
+use Rattle.pcapng_blocks.specs.Options.{fcs_len_option, offset_option, flags_option}
 use Rattle.pcapng_blocks.specs.Blocks.{BlockData}
 use Rattle.pcapng_blocks.specs.Blocks.BlockData.{OfSection, OfInterface, OfPacket}
 

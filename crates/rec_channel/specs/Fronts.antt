@@ -8,7 +8,8 @@ use Rattle.rec_channel.specs.Slots.{SlotState}
 use Rattle.rec_channel.specs.declared.fault.DrawFault.{DrawFault}
 use Rattle.rec_channel.specs.declared.fault.DrawFault.TheVariants.{CountFull, Stale, Memory}
 use Rattle.rec_channel.specs.declared.fault.InstallFault.{InstallFault}
-use Rattle.rec_channel.specs.declared.fault.InstallFault.TheVariants.{VersionsFull, Stale as StaleInstall}
+use Rattle.rec_channel.specs.declared.fault.InstallFault.TheVariants.{VersionsFull}
+use Rattle.rec_channel.specs.declared.fault.InstallFault.TheVariants.{Stale as StaleInstall}
 
 -- one of the first front's counts is below the second's
 abbrev pub IsBelow : Front → Front → Type 0
@@ -24,8 +25,8 @@ abbrev pub InstallStaleOnlyBelow : Front → InstallFault → Type 0
 InstallStaleOnlyBelow known (StaleInstall program seen) = IsBelow seen known
 InstallStaleOnlyBelow known _ = Unit {0}
 
--- out of memory is answered only to a caller that knows of fewer versions than these: one that knows
--- of all needs no share of a program, so a draw that it tries again ends
+-- out of memory is answered only to a caller that knows of fewer versions than these: one that
+-- knows of all needs no share of a program, so a draw that it tries again ends
 abbrev pub MemoryOnlyBehind : (versions : ℕ) → Front → DrawFault → Type 0
 MemoryOnlyBehind versions known Memory = known.versions < versions
 MemoryOnlyBehind versions known _ = Unit {0}

@@ -1,6 +1,7 @@
 -- The programs of one channel, from which frame on each was in force, and which one is in force at
 -- a frame. Frames are numbered from 0 in the order in which they were drawn.
-use Rattle.std.specs.Prelude.{ℕ, ◌≡◌, ◌<◌, ◌≤◌, ◌-◌, nat_le, List, length, Some, slice_get, count_by, All, AllPairs}
+use Rattle.std.specs.Prelude.{ℕ, ◌≡◌, ◌<◌, ◌≤◌, ◌-◌, nat_le, List, length, Some, slice_get}
+use Rattle.std.specs.Prelude.{count_by, All, AllPairs}
 use Rattle.bpf_insn.specs.declared.insn.Insn.{Insn}
 use Rattle.bpf_insn.specs.Bytes.{AreInRange}
 use Rattle.bpf_verify.specs.Validity.{Valid}

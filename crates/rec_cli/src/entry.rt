@@ -27,12 +27,13 @@ use std::thread::Threads;
 ///
 /// Without words it reads a listing and a view in hexadecimal, a line each, from `input`, and
 /// prints `<value> <steps>`: what the program returns on the view, and after how many instructions.
+/// Where `explains`, a line on what a refusal or a fault means follows it in `errors`, as on a terminal.
 pub fn program<
     R: AllocGlobal + Files + Threads + Wait + Sync,
     I: Read + Send + Drop,
     O: Write,
     E: Write + Send + Drop,
->(rt: &R, words: &[String], input: I, output: &mut O, errors: E) -> u8
+>(rt: &R, words: &[String], input: I, output: &mut O, errors: E, explains: bool) -> u8
 where
     R::File: Send + LockFile + PlacedRead,
     R::Dir: Send,
@@ -42,10 +43,10 @@ where
         (I.remaining input) (O.contents output.old) (O.contents output.new) (Ok (tt {0})) }
 {
     if let Some(setup) = stream_setup(words) {
-        return stream(rt, setup, input, output, errors);
+        return stream(rt, setup, input, output, errors, explains);
     }
     if let Some(asked) = several_in(words) {
-        return join(rt, &asked, output, errors);
+        return join(rt, &asked, output, errors, explains);
     }
     let shared = Mutex::new(errors);
     let answer = if words.is_empty() {
@@ -56,7 +57,7 @@ where
     };
     match answer {
         Ok(()) => ANSWERED,
-        Err(ending) => ending.report(rt.alloc(), output, &mut shared.into_inner()),
+        Err(ending) => ending.report(rt.alloc(), output, &mut shared.into_inner(), explains),
     }
 }
 
@@ -82,12 +83,13 @@ fn stream<R: AllocGlobal + Files, I: Read + Drop, O: Write, E: Write + Drop>(
     input: I,
     output: &mut O,
     errors: E,
+    explains: bool,
 ) -> u8 {
     let mut input = input;
     let mut errors = errors;
     match stream_chapter11(rt, setup, &mut input, output, &mut errors) {
         Ok(()) => ANSWERED,
-        Err(ending) => ending.report(rt.alloc(), output, &mut errors),
+        Err(ending) => ending.report(rt.alloc(), output, &mut errors, explains),
     }
 }
 

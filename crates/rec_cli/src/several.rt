@@ -71,6 +71,7 @@ pub(crate) fn join<R: AllocGlobal + Files, O: Write, E: Write + Drop>(
     asked: &Several<'_>,
     output: &mut O,
     errors: E,
+    explains: bool,
 ) -> u8
 where
     R::File: LockFile + PlacedRead,
@@ -78,6 +79,6 @@ where
     let mut errors = errors;
     match write_joined(rt, asked.recordings, asked.setup, asked.out, output) {
         Ok(()) => ANSWERED,
-        Err(ending) => ending.report(rt.alloc(), output, &mut errors),
+        Err(ending) => ending.report(rt.alloc(), output, &mut errors, explains),
     }
 }

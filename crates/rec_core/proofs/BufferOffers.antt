@@ -17,7 +17,8 @@ use Rattle.rec_core.specs.World.{WorldState, IsInOrder, produced, frame_taken}
 use Rattle.rec_core.specs.Written.{RunsFromOpening}
 use Rattle.rec_core.specs.Buffers.{FlowState, FlowWorld, FlowSpec, Move, LeadTo, return_places, without_buffers, specs_of_flows, CanOffer}
 use Rattle.rec_core.specs.Buffers.Stage.{Asks, Sends}
-use Rattle.rec_core.proofs.ListPlaces.{All_there, there_map, set_there}
+use Rattle.ch11_packet.proofs.ChangedLists.{all_there, set_there}
+use Rattle.rec_core.proofs.ListPlaces.{there_map}
 use Rattle.rec_core.proofs.Buffers.{IsFlow, asking, reached}
 use Rattle.rec_core.proofs.BufferRuns.{forgotten}
 
@@ -113,6 +114,6 @@ pub any_frame : HaveValues → MakeFew → AreOrdered → (ring spare : ℕ) (sp
 any_frame values few ordered ring spare specs moves new are filters lead at f frame there stage some roomy framed =
     let run = forgotten ring spare specs moves new lead in
     let all = ordered ring (specs_of_flows specs) (without_buffers new) (run.0, unrefused run.1, are, filters, run.2) in
-    offers values few ring spare new at f frame there (All_there (IsFlow ring spare) new.flows at f (reached ring spare specs moves new lead) there)
-    (All_there IsInOrder (without_buffers new).channels at f.channel all (there_map (λ (h : FlowState). h.channel) new.flows at f there))
+    offers values few ring spare new at f frame there (all_there (IsFlow ring spare) new.flows at f (reached ring spare specs moves new lead) there)
+    (all_there IsInOrder (without_buffers new).channels at f.channel all (there_map (λ (h : FlowState). h.channel) new.flows at f there))
     stage some roomy framed

@@ -17,7 +17,7 @@ use Rattle.rec_core.specs.Buffers.{FlowState, FlowWorld, FlowSpec, waiting, open
 use Rattle.rec_core.specs.Buffers.{FlowStepAt, FlowRun, LeadTo, return_places, stage_work, flow_work, work_left, most_steps}
 use Rattle.rec_core.specs.Buffers.Stage.{NeedsBuffer, Asks, Sends}
 use Rattle.rec_core.specs.Buffers.Move.{TakesBuffer, AsksSource, OffersFrame, ClosesAtEnd, ClosesAtMost, SendsPiece, GoesOn, WritesPiece, GivesBack, Installs}
-use Rattle.rec_core.proofs.ListPlaces.{All_there}
+use Rattle.ch11_packet.proofs.ChangedLists.{all_there}
 use Rattle.rec_core.proofs.Buffers.{IsFlow, packets_within, needing, asking, AreFlows, kept_all, opened, reached}
 
 -- ---- sums
@@ -137,7 +137,7 @@ module _ (ring spare : ℕ) where
   pub falls_all : (places : ℕ) (old new : FlowWorld) (at : ℕ) (move : Move) → AreFlows ring spare old → FlowStepAt ring places old at move new
       → work_left new < work_left old
   falls_all places old new at move are step =
-      let less = falls places step.0 step.1 move step.2 (All_there (IsFlow ring spare) old.flows at step.0 are step.3) step.5 in
+      let less = falls places step.0 step.1 move step.2 (all_there (IsFlow ring spare) old.flows at step.0 are step.3) step.5 in
       let sum = sum_set flow_work old.flows at step.0 step.1 step.3 in
       subst (λ (w : FlowWorld). work_left w < work_left old) (sym step.6) (omega (arith, less, sum))
 

@@ -26,7 +26,8 @@ use Rattle.rec_core.specs.World.{frame_taken, time_taken, program_installed, pie
 use Rattle.rec_core.specs.World.EventData.{OfTake, OfTime, OfInstall, OfSend, OfWrite}
 use Rattle.rec_core.specs.Worlds.{ChannelParts, HasLane, AreQueued, HoldsChannel, AreHeldParts}
 use Rattle.rec_core.specs.Steps.{DoesEvent, RefusesEvent, Offers, NotOffered, Notes, lane_ready}
-use Rattle.rec_core.proofs.ListPlaces.{get_behind, All_there}
+use Rattle.ch11_packet.proofs.ChangedLists.{all_there}
+use Rattle.rec_core.proofs.ListPlaces.{get_behind}
 use Rattle.rec_core.proofs.ChannelsInOrder.{IsOfHistory, LaterLeave, last_is_of_history, running_is, in_order_taken, in_order_timed, in_order_installed}
 use Rattle.rec_lane.proofs.Noting.{with_length}
 
@@ -353,7 +354,7 @@ begins_there xs ys k x b is = subst (λ zs. slice_get zs k ≡ Some x) b.1 (get_
 pub produced_is_of : OfTheirChannel → BeginAll → (c : ChannelState) (k : ℕ) (piece : PieceData) → slice_get (produced c) k ≡ Some piece
     → channel_of piece ≡ c.settings.channel
 produced_is_of theirs begin c k piece is =
-    All_there (λ (p : PieceData). channel_of p ≡ c.settings.channel) (channel_pieces c.settings c.offered) k piece (theirs c.settings c.offered)
+    all_there (λ (p : PieceData). channel_of p ≡ c.settings.channel) (channel_pieces c.settings c.offered) k piece (theirs c.settings c.offered)
     (begins_there (produced c) (channel_pieces c.settings c.offered) k piece (produced_begins begin c) is)
 
 -- the first piece in the ring is of the channel

@@ -1,47 +1,21 @@
 -- What stands at an index of a list, and a list that is put together.
-use Rattle.std.proofs.Common.{ℕ, suc, zero, ◌+◌, ◌≡◌, ◌≢◌, ◌<◌, ◌⊎◌, inl, inr, List, [], ◌∷◌, ◌++◌, length}
-use Rattle.std.proofs.Common.{Some, refl, sym, ◌∙◌, ap, subst, arith, map, drop, take, All}
+use Rattle.std.proofs.Common.{ℕ, suc, zero, ◌+◌, ◌≡◌, ◌≢◌, ◌<◌, inl, inr, List, [], ◌∷◌, ◌++◌, length}
+use Rattle.std.proofs.Common.{Some, refl, sym, ◌∙◌, ap, subst, arith, map, drop, take}
 use Rattle.std.specs.Prelude.{slice_get, slice_set, AllPairs, get_or}
 use Rattle.std.specs.List.{AllZip, Any}
 use Rattle.std.proofs.lemmas.List.{take_more, map-append}
 use Rattle.std.proofs.lemmas.Bool.{cases_lt}
 use Rattle.std.proofs.lemmas.Option.{same_Some, none-some, slice_get_within, get_or_from_slice_get, slice_get-get_or}
-use Rattle.std.proofs.lemmas.List.Elements.{All-get_or}
 
 -- the element behind a front
 pub get_behind : {X : Type 0} (xs : List X) (x : X) (ys : List X) → slice_get (xs ++ x ∷ ys) (length xs) ≡ Some x
 get_behind [] x ys = refl
 get_behind (z ∷ zs) x ys = get_behind zs x ys
 
-pub set_there : {X : Type 0} (xs : List X) (k : ℕ) (x y : X) → slice_get xs k ≡ Some x → slice_get (slice_set xs k y) k ≡ Some y
-set_there [] k x y is = absurd (none-some x is)
-set_there (z ∷ zs) zero x y is = refl
-set_there (z ∷ zs) (suc k) x y is = set_there zs k x y is
-
 pub set_same : {X : Type 0} (xs : List X) (k : ℕ) (x : X) → slice_get xs k ≡ Some x → slice_set xs k x ≡ xs
 set_same [] k x is = refl
 set_same (z ∷ zs) zero x is = ap (λ w. w ∷ zs) (sym (same_Some z x is))
 set_same (z ∷ zs) (suc k) x is = ap (λ ws. z ∷ ws) (set_same zs k x is)
-
--- what stands in a list of which one element was changed
-pub set_cases : {X : Type 0} (xs : List X) (k : ℕ) (y : X) (j : ℕ) (b : X) → slice_get (slice_set xs k y) j ≡ Some b
-    → ((j ≡ k) × (b ≡ y)) ⊎ ((j ≢ k) × (slice_get xs j ≡ Some b))
-set_cases [] k y j b is = absurd (none-some b is)
-set_cases (x ∷ xs) zero y zero b is = inl (refl, sym (same_Some y b is))
-set_cases (x ∷ xs) zero y (suc j) b is = inr ((λ e. omega (arith, e)), is)
-set_cases (x ∷ xs) (suc k) y zero b is = inr ((λ e. omega (arith, e)), is)
-set_cases (x ∷ xs) (suc k) y (suc j) b is = elim (set_cases xs k y j b is)
-    as (λ _. ((suc j ≡ suc k) × (b ≡ y)) ⊎ ((suc j ≢ suc k) × (slice_get xs j ≡ Some b))) [
-      | inl same ↦ inl (ap suc same.0, same.1)
-      | inr other ↦ inr ((λ e. other.0 (omega (arith, e))), other.1)
-    ]
-
-pub set_elsewhere : {X : Type 0} (xs : List X) (k j : ℕ) (x y : X) → slice_get xs j ≡ Some x → j ≢ k → slice_get (slice_set xs k y) j ≡ Some x
-set_elsewhere [] k j x y is other = absurd (none-some x is)
-set_elsewhere (z ∷ zs) zero zero x y is other = absurd (other refl)
-set_elsewhere (z ∷ zs) zero (suc j) x y is other = is
-set_elsewhere (z ∷ zs) (suc k) zero x y is other = is
-set_elsewhere (z ∷ zs) (suc k) (suc j) x y is other = set_elsewhere zs k j x y is (λ e. other (ap suc e))
 
 -- a change that a map doesn't see
 pub set_unseen : {A B : Type 0} (f : A → B) (xs : List A) (k : ℕ) (x y : A) → slice_get xs k ≡ Some x → f y ≡ f x → map f (slice_set xs k y) ≡ map f xs
@@ -77,12 +51,6 @@ set_map f g (z ∷ zs) (suc k) x is same =
     ∙ ap (λ ws. g z ∷ ws) (set_map f g zs k x is (λ j y there other. same (suc j) y there (λ bad. other (omega (arith, bad)))))
 
 -- what holds of each element holds of the one at an index
-pub All_there : {X : Type 0} (P : X → Type 0) (xs : List X) (k : ℕ) (x : X) → All P xs → slice_get xs k ≡ Some x → P x
-All_there P xs k x all is = subst P (get_or_from_slice_get xs k x x is) (All-get_or P xs k x (slice_get_within xs k x is) all)
-
-pub All_from_places : {X : Type 0} (P : X → Type 0) (xs : List X) → ((k : ℕ) (x : X) → slice_get xs k ≡ Some x → P x) → All P xs
-All_from_places P xs h k d within = h k (get_or xs k d) (slice_get-get_or xs k d within)
-
 pub Any_there : {X : Type 0} (P : X → Type 0) (xs : List X) (k : ℕ) (x : X) → slice_get xs k ≡ Some x → P x → Any P xs
 Any_there P xs k x is holds = (k, x, slice_get_within xs k x is, get_or_from_slice_get xs k x x is, holds)
 

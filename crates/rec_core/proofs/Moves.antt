@@ -20,7 +20,8 @@ use Rattle.rec_core.specs.World.{ChannelState, MeetsLast, opening_channel}
 use Rattle.rec_core.specs.World.EventData.{OfTake, OfTime, OfInstall, OfClose}
 use Rattle.rec_core.specs.Ties.{takes_of, moves_from, moves_of, close_of}
 use Rattle.rec_lane.proofs.Noting.{noted_push}
-use Rattle.rec_core.proofs.ListPlaces.{All_there, there_map}
+use Rattle.ch11_packet.proofs.ChangedLists.{all_there}
+use Rattle.rec_core.proofs.ListPlaces.{there_map}
 use Rattle.rec_core.proofs.ChannelServing.{begins_there}
 use Rattle.rec_core.proofs.WorldRuns.{Makes, makes_none, makes_one, makes_both}
 
@@ -65,7 +66,7 @@ meets_last spec done past vs f some begun later number met untimed =
       | inl before ↦ before
       | inr after ↦ absurd (
           let at = behind past vs f.version met.in_force.entry met.in_force.stands after in
-          let e = All_there (λ (v : Version). length done < v.mark) vs (f.version - length past) met.in_force.entry later at in
+          let e = all_there (λ (v : Version). length done < v.mark) vs (f.version - length past) met.in_force.entry later at in
           let b = met.in_force.begun in
           omega (arith, e, b, number))
     ] in

@@ -1,15 +1,12 @@
 -- A core of which nothing was taken stands for the opening world.
-use Rattle.std.proofs.Common.{ℕ, ◌≡◌, ◌≢◌, false, List, [], ◌∷◌, Option, Some, refl, sym, ◌∙◌, ap, subst, map, All}
+use Rattle.std.proofs.Common.{ℕ, ◌≡◌, ◌≢◌, false, List, [], ◌∷◌, Option, refl, sym, ◌∙◌, ap, subst, map, All}
 use Rattle.std.specs.List.{AllZip}
 use Rattle.std.proofs.lemmas.Bool.{both_ways}
-use Rattle.rec_channel.specs.Slots.{opening_slot}
-use Rattle.rec_lane.specs.Lanes.{HasMet, new_lane}
 use Rattle.rec_writer.specs.Numbers.{numbered_channels}
 use Rattle.rec_writer.specs.Writers.{WriterState, HasWritten}
-use Rattle.rec_core.specs.Openings.{SpecData, IsFilter, channels_of_specs}
+use Rattle.rec_core.specs.Openings.{SpecData, channels_of_specs}
 use Rattle.rec_core.specs.World.{opening_channel, opening_world}
 use Rattle.rec_core.specs.Worlds.{ChannelParts, HoldsChannel, StandsForWorld, channels_of_parts, IsCore}
-use Rattle.rec_core.proofs.ChannelsInOrder.{in_order_opening}
 
 pub opening_stands : (size : ℕ) (first : Option (List ℕ)) (specs : List SpecData) (channels : List ChannelParts) (writer : WriterState)
     → AllZip (HoldsChannel size) channels (map opening_channel specs) → HasWritten first [] [] writer → writer.failed ≡ false

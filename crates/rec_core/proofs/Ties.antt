@@ -19,7 +19,8 @@ use Rattle.rec_core.specs.Openings.{SpecData, AreSpecs, IsFilter, channels_of_sp
 use Rattle.rec_core.specs.World.{ChannelState, EventData, opening_channel, opening_world}
 use Rattle.rec_core.specs.Written.{IsEndedChannel, recorded_channel}
 use Rattle.rec_core.specs.Ties.{moves_of, close_of, passes_of, events_of, IsOfSpec, IsRunOfWorld}
-use Rattle.rec_core.proofs.ListPlaces.{All_there, All_from_places, map_same, map_there, get_behind}
+use Rattle.ch11_packet.proofs.ChangedLists.{all_there, all_from_there}
+use Rattle.rec_core.proofs.ListPlaces.{map_same, map_there, get_behind}
 use Rattle.rec_core.proofs.Written.{of}
 use Rattle.rec_core.proofs.WorldRuns.{Runs, world, Makes, nowhere, one_after_another}
 use Rattle.rec_core.proofs.Moves.{Lane, IsLane, recorded_lane, moved_lane, closed_lane, lane_moved, lane_closed}
@@ -118,9 +119,9 @@ passed lens ring lanes all [] done some distinct named whole is =
     (nowhere ring (world (map (after done) lanes) done))
 passed lens ring lanes all (p ∷ rest) done some distinct named whole is =
     let at : slice_get all (length done) ≡ Some p = subst (λ ps. slice_get ps (length done) ≡ Some p) is (get_behind done p rest) in
-    let found = All_there (λ (q : PieceData). (k : ℕ) × (lane : Lane) × (slice_get lanes k ≡ Some lane) × (channel_of q ≡ lane_id lane)) all (length done) p
+    let found = all_there (λ (q : PieceData). (k : ℕ) × (lane : Lane) × (slice_get lanes k ≡ Some lane) × (channel_of q ≡ lane_id lane)) all (length done) p
     named at in
-    let next = next_of_lane found.1 done p rest found.3 (ap (of (lane_id found.1)) is ∙ All_there (IsWhole all) lanes found.0 found.1 whole found.2) in
+    let next = next_of_lane found.1 done p rest found.3 (ap (of (lane_id found.1)) is ∙ all_there (IsWhole all) lanes found.0 found.1 whole found.2) in
     one_after_another ring (world (map (after done) lanes) done) (world (map (after (done ++ p ∷ [])) lanes) (done ++ p ∷ []))
     (world (map (after all) lanes) all)
     (passes_of p) (flat_map passes_of rest)
@@ -172,7 +173,7 @@ all_run lens ring lanes pieces some distinct named good whole =
     passed lens ring lanes pieces pieces [] some distinct named whole refl in
     let same : map (after pieces) lanes ≡ map ended_lane lanes =
     map_same (after pieces) ended_lane lanes (λ j l is. ap (λ (ps : List PieceData). closed_lane l (length ps))
-    (All_there (IsWhole pieces) lanes j l whole is)) in
+    (all_there (IsWhole pieces) lanes j l whole is)) in
     let last : Runs ring (world (map closed lanes) []) (flat_map passes_of pieces) (world (map ended_lane lanes) pieces) =
     subst (λ cs. Runs ring (world (map closed lanes) []) (flat_map passes_of pieces) (world cs pieces)) same third in
     let all = one_after_another ring (world (map begun lanes) []) (world (map moved_lane lanes) []) (world (map ended_lane lanes) pieces)
@@ -198,8 +199,8 @@ lane_filter : (lane : Lane) → IsLane lane → IsFilter lane.spec.program
 lane_filter lane is =
     let from = map_there (λ (v : Version). v.program) lane.history 0 lane.spec.program is.program_is in
     subst IsFilter from.2 (record {
-      valid = All_there (λ (v : Version). Valid v.program) lane.history 0 from.0 is.past.valid from.1;
-      in_range = All_there (λ (v : Version). AreInRange v.program) lane.history 0 from.0 is.past.in_range from.1;
+      valid = all_there (λ (v : Version). Valid v.program) lane.history 0 from.0 is.past.valid from.1;
+      in_range = all_there (λ (v : Version). AreInRange v.program) lane.history 0 from.0 is.past.in_range from.1;
     })
 
 module _ (lens : HaveLens) (ring : ℕ) (pieces : List PieceData) (some : 0 < ring) where
@@ -210,16 +211,16 @@ module _ (lens : HaveLens) (ring : ℕ) (pieces : List PieceData) (some : 0 < ri
       record {
         are_specs = specs;
         filters = All-map (λ (s : SpecData). IsFilter s.program) (λ (l : Lane). l.spec) lanes
-            (All_from_places (λ (l : Lane). IsFilter l.spec.program) lanes (λ k l is. lane_filter l (All_there IsLane lanes k l good is)));
+            (all_from_there (λ (l : Lane). IsFilter l.spec.program) lanes (λ k l is. lane_filter l (all_there IsLane lanes k l good is)));
         replies = run.0;
         new = world (map ended_lane lanes) pieces;
         run = run.1;
         channels_are = ended_alike lanes;
         most_are = most_alike lanes;
-        ended = All-map IsEndedChannel ended_lane lanes (All_from_places (λ (l : Lane). IsEndedChannel (ended_lane l)) lanes
+        ended = All-map IsEndedChannel ended_lane lanes (all_from_there (λ (l : Lane). IsEndedChannel (ended_lane l)) lanes
             (λ k l is. record { closed = refl; whole = refl }));
         sent = All-map (λ (c : ChannelState). c.sent ≡ c.written) ended_lane lanes
-            (All_from_places (λ (l : Lane). (ended_lane l).sent ≡ (ended_lane l).written) lanes (λ k l is. refl));
+            (all_from_there (λ (l : Lane). (ended_lane l).sent ≡ (ended_lane l).written) lanes (λ k l is. refl));
         out_is = refl;
       }
 
@@ -228,10 +229,10 @@ module _ (lens : HaveLens) (ring : ℕ) (pieces : List PieceData) (some : 0 < ri
       → IsRunOfWorld ring specs channels pieces
   tied specs channels are zip of_channels =
       let ls = lanes_of specs channels pieces zip of_channels.each in
-      let named : AreNamed ls.lanes pieces = All_from_places (λ (p : PieceData). (k : ℕ) × (lane : Lane) × (slice_get ls.lanes k ≡ Some lane)
+      let named : AreNamed ls.lanes pieces = all_from_there (λ (p : PieceData). (k : ℕ) × (lane : Lane) × (slice_get ls.lanes k ≡ Some lane)
       × (channel_of p ≡ lane_id lane)) pieces
       (λ k p is. named_lane ls.lanes p (subst (λ cs. Any (λ (c : RecordedChannel). c.settings.channel ≡ channel_of p) cs) (sym ls.channels_are)
-      (All_there (λ (q : PieceData). Any (λ (c : RecordedChannel). c.settings.channel ≡ channel_of q) channels) pieces k p of_channels.named is))) in
+      (all_there (λ (q : PieceData). Any (λ (c : RecordedChannel). c.settings.channel ≡ channel_of q) channels) pieces k p of_channels.named is))) in
       subst (λ ss. IsRunOfWorld ring ss channels pieces) ls.specs_are
       (subst (λ cs. IsRunOfWorld ring (map (λ (l : Lane). l.spec) ls.lanes) cs pieces) ls.channels_are
       (of_lanes ls.lanes ls.each ls.whole named (subst AreSpecs (sym ls.specs_are) are)))

@@ -6,7 +6,8 @@ use Rattle.rec_lane.specs.Pieces.{PieceData}
 use Rattle.rec_core.specs.declared.reply.Reply.{Reply}
 use Rattle.rec_core.specs.World.{ChannelState, WorldState, EventData, event_channel, ChannelDoes, WorldStep, WorldRun}
 use Rattle.rec_core.specs.Ties.{unrefused}
-use Rattle.rec_core.proofs.ListPlaces.{set_same, set_there}
+use Rattle.ch11_packet.proofs.ChangedLists.{set_there}
+use Rattle.rec_core.proofs.ListPlaces.{set_same}
 
 -- none of the events is refused
 abbrev pub Runs : ℕ → WorldState → List EventData → WorldState → Type 0

@@ -20,7 +20,8 @@ use Rattle.rec_core.specs.World.EventData.{OfTake, OfTime, OfInstall, OfSend, Of
 use Rattle.rec_core.specs.Worlds.{ChannelParts, CoreState, HoldsChannel, AreHeldParts, IsCutAtFront, StandsForWorld, StandsCutAt, StandsWith}
 use Rattle.rec_core.specs.Worlds.{StepsWorld, RunsWorld, StepsCut, RunsCut, failed_then, failed_after, channels_of_parts, IsCore}
 use Rattle.rec_core.specs.Steps.{Serves, Writes, FailsAtPiece, LeavesWriter}
-use Rattle.rec_core.proofs.ListPlaces.{set_there, set_elsewhere, there_map, All_there, All_from_places, zip_there, zip_back, zip_set, zip_set_left}
+use Rattle.ch11_packet.proofs.ChangedLists.{set_there, set_elsewhere, all_there, all_from_there}
+use Rattle.rec_core.proofs.ListPlaces.{there_map, zip_there, zip_back, zip_set, zip_set_left}
 
 abbrev core : List ChannelParts → WriterState → CoreState
 core channels writer = record { channels = channels; writer = writer }
@@ -286,10 +287,10 @@ pub of_none : (channels : List ChannelParts) (writer : WriterState) (event : Eve
 of_none channels writer event none size first world failed s = (
   world,
   (
-    All_from_places (λ (c : ChannelState). c.settings.channel ≢ event_channel event) world.channels (λ k c is.
+    all_from_there (λ (c : ChannelState). c.settings.channel ≢ event_channel event) world.channels (λ k c is.
         let z = zip_back (HoldsChannel size) channels world.channels k c (stands_alone size first (core channels writer) world failed s).channels_are is in
         subst (λ (l : LaneSettings). l.channel ≢ event_channel event) z.2.settings_are
-        (All_there (λ (other : ℕ). other ≢ event_channel event) (channels_of_parts channels) k z.0.settings.channel none
+        (all_there (λ (other : ℕ). other ≢ event_channel event) (channels_of_parts channels) k z.0.settings.channel none
         (there_map (λ (p : ChannelParts). p.settings.channel) channels k z.0 z.1))),
     refl,
   ),
@@ -324,7 +325,7 @@ pub known_at : (old : CoreState) (at : ℕ) (p : ChannelParts) → IsCore old �
 known_at old at p is there =
     let there_too : slice_get (channels_of_parts old.channels) at ≡ Some p.settings.channel =
     there_map (λ (q : ChannelParts). q.settings.channel) old.channels at p there in (
-      All_there (λ (channel : ℕ). channel ≢ 0) (channels_of_parts old.channels) at p.settings.channel is.named there_too,
+      all_there (λ (channel : ℕ). channel ≢ 0) (channels_of_parts old.channels) at p.settings.channel is.named there_too,
       subst (λ cs. Contains cs p.settings.channel) (sym is.known)
           (let within = slice_get_within (channels_of_parts old.channels) at p.settings.channel there_too in
           (suc at, omega (arith, within), get_or_from_slice_get (channels_of_parts old.channels) at p.settings.channel p.settings.channel there_too)),

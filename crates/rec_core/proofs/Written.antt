@@ -28,7 +28,8 @@ use Rattle.rec_core.specs.World.EventData.{OfTake, OfTime, OfInstall, OfSend, Of
 use Rattle.rec_core.specs.Worlds.{CoreState, HoldsChannel, IsCutAtFront, StandsForWorld, StandsCutAt}
 use Rattle.rec_core.specs.Written.{RunsFromOpening, WritesInOrder, WritesAll, IsEndedChannel, AreEnded}
 use Rattle.rec_core.specs.Written.{recorded_channel, recorded_channels, IsCutShort, IsCutShortAt}
-use Rattle.rec_core.proofs.ListPlaces.{set_cases, set_unseen, map_there, there_map, All_there, All_from_places, Any_there, distinct_at, zip_there, get_behind}
+use Rattle.ch11_packet.proofs.ChangedLists.{set_cases, all_there, all_from_there}
+use Rattle.rec_core.proofs.ListPlaces.{set_unseen, map_there, there_map, Any_there, distinct_at, zip_there, get_behind}
 use Rattle.rec_core.proofs.ChannelsInOrder.{LaterLeave, in_order_taken, in_order_timed, in_order_installed, in_order_opening}
 use Rattle.rec_lane.proofs.Beginnings.{frame_more}
 use Rattle.rec_lane.proofs.Growth.{timed_grows}
@@ -253,7 +254,7 @@ opening_sound specs are filters = record {
   distinct = subst AreDistinctChannels (sym (opening_ids specs)) are.distinct;
   each = λ k c is.
       let from = map_there opening_channel specs k c is in
-      let filter = All_there (λ (s : SpecData). IsFilter s.program) specs k from.0 filters from.1 in
+      let filter = all_there (λ (s : SpecData). IsFilter s.program) specs k from.0 filters from.1 in
       subst (λ x. Sound [] x) from.2 (record {
         long = refl;
         begins = (channel_pieces from.0.settings [], refl);
@@ -272,13 +273,13 @@ pub channels_in_order : LaterLeave → OfTheirChannel → BeginAll → (ring : �
     → All IsInOrder new.channels
 channels_in_order leave theirs begin ring specs new r =
     let s = reached leave theirs begin ring specs new r in
-    All_from_places IsInOrder new.channels (λ k c is. (s.each k c is).order)
+    all_from_there IsInOrder new.channels (λ k c is. (s.each k c is).order)
 
 pub written_in_order : LaterLeave → OfTheirChannel → BeginAll → (ring : ℕ) (specs : List SpecData) (new : WorldState) → RunsFromOpening ring specs new
     → All (WritesInOrder new) new.channels
 written_in_order leave theirs begin ring specs new r =
     let s = reached leave theirs begin ring specs new r in
-    All_from_places (WritesInOrder new) new.channels (λ k c is. (s.each k c is).begins)
+    all_from_there (WritesInOrder new) new.channels (λ k c is. (s.each k c is).begins)
 
 -- a beginning that is as long as the whole is the whole
 begins_whole : {X : Type 0} (xs ys : List X) → BeginsList xs ys → length xs ≡ length ys → xs ≡ ys
@@ -300,7 +301,7 @@ pub written_whole : LaterLeave → OfTheirChannel → BeginAll → (ring : ℕ) 
     → All (WritesAll new) new.channels
 written_whole leave theirs begin ring specs new r =
     let s = reached leave theirs begin ring specs new r in
-    All_from_places (WritesAll new) new.channels (λ k c is. all_of new c (s.each k c is))
+    all_from_there (WritesAll new) new.channels (λ k c is. all_of new c (s.each k c is))
 
 pub recorded : LaterLeave → OfTheirChannel → BeginAll → (ring : ℕ) (specs : List SpecData) (new : WorldState) → RunsFromOpening ring specs new → AreEnded new
     → AreOfChannels (recorded_channels new) new.out
@@ -315,11 +316,11 @@ recorded leave theirs begin ring specs new r ended =
           new.out s.named;
       each = All-map (λ (c : RecordedChannel). ArePieces c.settings c.frames c.times c.history (filter (is_of c.settings.channel) new.out)) recorded_channel
           new.channels
-          (All_from_places
+          (all_from_there
           (λ (c : ChannelState). ArePieces c.settings (frames_of c.offered) (times_of c.offered) c.history (of c.settings.channel new.out)) new.channels
           (λ k c is.
           let sound = s.each k c is in
-          (c.offered, sound.order.met, refl, sym (all_of new c sound (All_there IsEndedChannel new.channels k c ended is)), refl)));
+          (c.offered, sound.order.met, refl, sym (all_of new c sound (all_there IsEndedChannel new.channels k c ended is)), refl)));
     }
 
 -- ---- a core
@@ -332,7 +333,7 @@ works_at_end size before core w ended s = elim (cases_Bool core.writer.failed) a
       let i = (s.cut_at_front fails).1 in
       let z = zip_there (HoldsChannel size) core.channels w.channels i.at i.parts s.channels_are i.there in
       let q = z.2.queued in
-      let whole = (All_there IsEndedChannel w.channels i.at z.0 ended z.1).whole in
+      let whole = (all_there IsEndedChannel w.channels i.at z.0 ended z.1).whole in
       let all = ap (λ (ps : List PieceData). length ps) q.produced_is in
       let a = length-append q.gone (i.parts.ring ++ i.parts.pending) in
       let b = length-append i.parts.ring i.parts.pending in

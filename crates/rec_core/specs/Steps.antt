@@ -1,10 +1,12 @@
 -- What the calls of a core's channel did.
-use Rattle.std.specs.Prelude.{ℕ, ◌+◌, ◌≡◌, ◌⊎◌, true, List, [], ◌∷◌, ◌++◌, length, Some, slice_get, Result, Ok, Err}
+use Rattle.std.specs.Prelude.{ℕ, ◌+◌, ◌≡◌, ◌⊎◌, true, List, [], ◌∷◌, ◌++◌, length, Some, slice_get}
+use Rattle.std.specs.Prelude.{Result, Ok, Err}
 use Rattle.bpf_insn.specs.declared.insn.Insn.{Insn}
 use Rattle.bpf_machine.specs.Machine.{Runs}
 use Rattle.eth_frame.specs.Frame.{FrameData, view}
 use Rattle.rec_channel.specs.Slots.{SlotState, programs_in, one_frame_later}
-use Rattle.rec_lane.specs.Lanes.{LaneState, running, offered_now, Meets, MakesCertain, MeetsTime, MakesCertainAt}
+use Rattle.rec_lane.specs.Lanes.{LaneState, running, offered_now, Meets, MakesCertain, MeetsTime}
+use Rattle.rec_lane.specs.Lanes.{MakesCertainAt}
 use Rattle.rec_lane.specs.Pieces.{PieceData}
 use Rattle.rec_writer.specs.Writers.{WriterState, PutsWhole, PutsPart}
 use Rattle.rec_core.specs.declared.reply.Reply.{Reply}
@@ -41,8 +43,8 @@ AnswersEvent size old new event (Err fault) = RefusesEvent size old new event fa
 abbrev pub lane_ready : LaneState → LaneState
 lane_ready lane = record lane { ready = true }
 
--- the version in force was drawn, the lane met the frame with it, and the pieces that became certain
--- are pending behind the others
+-- the version in force was drawn, the lane met the frame with it, and the pieces that became
+-- certain are pending behind the others
 pub record Offers
     (slot drawn : SlotState) (lane met : LaneState) (pending more : List PieceData)
     (frame : FrameData) (reply : Reply) : Type 0 where

@@ -1,6 +1,7 @@
 -- A recording as a run: the events that a recording of some channels is, and the world that they
 -- lead to.
-use Rattle.std.specs.Prelude.{ℕ, ◌≡◌, ◌-◌, ◌≤◌, List, [], ◌∷◌, ◌++◌, length, map, take, drop, All, None, Some, slice_get, Result, Ok}
+use Rattle.std.specs.Prelude.{ℕ, ◌≡◌, ◌-◌, ◌≤◌, List, [], ◌∷◌, ◌++◌, length, map, take, drop, All}
+use Rattle.std.specs.Prelude.{None, Some, slice_get, Result, Ok}
 use Rattle.std.specs.List.{flat_map}
 use Rattle.eth_frame.specs.Frame.{FrameData}
 use Rattle.rec_channel.specs.declared.limits.TheConstants.{MAX_VERSIONS}
@@ -47,8 +48,8 @@ close_of c = OfClose c.settings.channel
 abbrev pub passes_of : PieceData → List EventData
 passes_of piece = OfSend (channel_of piece) ∷ OfWrite (channel_of piece) ∷ []
 
--- each channel has its takes and installs; then each is closed; then each piece is sent and written,
--- in their order
+-- each channel has its takes and installs; then each is closed; then each piece is sent and
+-- written, in their order
 abbrev pub events_of : List RecordedChannel → List PieceData → List EventData
 events_of channels pieces =
     flat_map moves_of channels ++ (map close_of channels ++ flat_map passes_of pieces)

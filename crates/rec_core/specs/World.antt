@@ -1,6 +1,7 @@
 -- The core as a machine over events: what it does and answers at each, over plain lists. Slots,
 -- lanes, rings and buffers are not in here: they are what stands for such a world (Worlds.antt).
-use Rattle.std.specs.Prelude.{ℕ, ◌+◌, ◌≡◌, ◌≢◌, ◌<◌, ◌≤◌, Bool, true, false, if◌then◌else◌, List, [], ◌∷◌}
+use Rattle.std.specs.Prelude.{ℕ, ◌+◌, ◌≡◌, ◌≢◌, ◌<◌, ◌≤◌, Bool, true, false, if◌then◌else◌, List}
+use Rattle.std.specs.Prelude.{[], ◌∷◌}
 use Rattle.std.specs.Prelude.{◌++◌, length, map, All, Some, slice_get, slice_set, Result, Ok, Err}
 use Rattle.bpf_insn.specs.declared.insn.Insn.{Insn}
 use Rattle.bpf_machine.specs.Machine.{Runs}
@@ -13,12 +14,15 @@ use Rattle.rec_lane.specs.Pieces.{LaneSettings, PieceData, channel_pieces, piece
 use Rattle.rec_lane.specs.Pieces.PieceData.{OfProgram, OfFrames, OfEnd}
 use Rattle.rec_writer.specs.Encoding.{piece_packet}
 use Rattle.rec_core.specs.declared.reply.Reply.{Reply}
-use Rattle.rec_core.specs.declared.reply.Reply.TheVariants.{Took, Timed, Installed, Sent, Wrote, Closed as HasClosed}
+use Rattle.rec_core.specs.declared.reply.Reply.TheVariants.{Took, Timed, Installed, Sent, Wrote}
+use Rattle.rec_core.specs.declared.reply.Reply.TheVariants.{Closed as HasClosed}
 use Rattle.rec_core.specs.declared.reply.Which.{Which}
 use Rattle.rec_core.specs.declared.reply.Which.TheVariants.{Program, Frames, End}
 use Rattle.rec_core.specs.declared.fault.CoreFault.{CoreFault}
-use Rattle.rec_core.specs.declared.fault.CoreFault.TheVariants.{NoChannel, Closed, RingFull, NothingToSend}
-use Rattle.rec_core.specs.declared.fault.CoreFault.TheVariants.{NothingToWrite, VersionsFull, CountFull, Output, Memory}
+use Rattle.rec_core.specs.declared.fault.CoreFault.TheVariants.{NoChannel, Closed, RingFull}
+use Rattle.rec_core.specs.declared.fault.CoreFault.TheVariants.{NothingToSend}
+use Rattle.rec_core.specs.declared.fault.CoreFault.TheVariants.{NothingToWrite, VersionsFull}
+use Rattle.rec_core.specs.declared.fault.CoreFault.TheVariants.{CountFull, Output, Memory}
 use Rattle.rec_core.specs.Openings.{SpecData, IsFilter}
 
 -- ---- worlds
@@ -64,7 +68,8 @@ produced c =
 -- ---- events
 
 -- a frame is taken from the channel's source, or a time mark, or a program is installed; the next
--- piece is sent into the channel's ring, or the first one of the ring is written; or no more frames come
+-- piece is sent into the channel's ring, or the first one of the ring is written; or no more frames
+-- come
 pub data EventData : Type 0 where
   OfTake : (channel : ℕ) (frame : FrameData) → EventData
   OfTime : (channel counter : ℕ) → EventData
@@ -90,8 +95,8 @@ which_of (OfEnd channel counter offered kept) = End
 
 -- ---- what a channel does
 
--- the frame is the channel's next one, and met the last version, whose program returned its value on
--- the frame's view; no time mark came after it yet
+-- the frame is the channel's next one, and met the last version, whose program returned its value
+-- on the frame's view; no time mark came after it yet
 pub record MeetsLast (c : ChannelState) (f : OfferedFrame) : Type 0 where
   pub number_is : f.number ≡ length c.offered
   pub last : f.version + 1 ≡ length c.history
@@ -126,8 +131,8 @@ piece_written c = record c { written = c.written + 1 }
 abbrev pub channel_closed : ChannelState → ChannelState
 channel_closed c = record c { closed = true }
 
--- with rings of this size, a channel may give this answer to the event: it is `new` from then on, and
--- these pieces are written
+-- with rings of this size, a channel may give this answer to the event: it is `new` from then on,
+-- and these pieces are written
 abbrev pub ChannelDoes :
     (ring : ℕ) → ChannelState → EventData → Reply → ChannelState → List PieceData → Type 0
 ChannelDoes ring c (OfTake channel frame) (Took number version value) new more =
@@ -198,7 +203,8 @@ ChannelRefuses ring c _ _ = ⊥
 -- ---- steps and runs
 
 -- the channel with this ID stands at this index
-pub record StandsAt (channels : List ChannelState) (channel at : ℕ) (c : ChannelState) : Type 0 where
+pub record StandsAt (channels : List ChannelState) (channel at : ℕ)
+    (c : ChannelState) : Type 0 where
   pub there : slice_get channels at ≡ Some c
   pub named : c.settings.channel ≡ channel
 
@@ -207,8 +213,8 @@ abbrev pub world_after : WorldState → (at : ℕ) → ChannelState → List Pie
 world_after world at c more =
     record { channels = slice_set world.channels at c; out = world.out ++ more }
 
--- from `old`, with rings of this size, the world may give this answer to the event, and is `new` from
--- then on; a refusal leaves it as it was
+-- from `old`, with rings of this size, the world may give this answer to the event, and is `new`
+-- from then on; a refusal leaves it as it was
 abbrev pub WorldStep :
     (ring : ℕ) → WorldState → EventData → Result Reply CoreFault → WorldState → Type 0
 WorldStep ring old event (Ok reply) new =

@@ -1,5 +1,6 @@
 -- What a core holds, and the world that it stands for.
-use Rattle.std.specs.Prelude.{ℕ, ◌+◌, ◌≡◌, ◌≢◌, Bool, true, false, List, [], ◌∷◌, ◌++◌, length, map, All, Option, None, Some, slice_get, Result, Err}
+use Rattle.std.specs.Prelude.{ℕ, ◌+◌, ◌≡◌, ◌≢◌, Bool, true, false, List, [], ◌∷◌, ◌++◌, length, map}
+use Rattle.std.specs.Prelude.{All, Option, None, Some, slice_get, Result, Err}
 use Rattle.std.specs.List.{AllZip}
 use Rattle.rec_channel.specs.Slots.{SlotState}
 use Rattle.rec_lane.specs.Pieces.{LaneSettings, PieceData}
@@ -10,7 +11,8 @@ use Rattle.rec_core.specs.declared.reply.Reply.{Reply}
 use Rattle.rec_core.specs.declared.reply.Reply.TheVariants.{Wrote}
 use Rattle.rec_core.specs.declared.fault.CoreFault.{CoreFault}
 use Rattle.rec_core.specs.declared.fault.CoreFault.TheVariants.{Output}
-use Rattle.rec_core.specs.World.{ChannelState, WorldState, EventData, WorldStep, WorldRun, event_channel, produced, IsInOrder}
+use Rattle.rec_core.specs.World.{ChannelState, WorldState, EventData, WorldStep, WorldRun}
+use Rattle.rec_core.specs.World.{event_channel, produced, IsInOrder}
 
 -- what a core holds of a channel: what its lane is set to, and how many frames it may have; its
 -- slot; its lane until it is closed; how many pieces its ring has room for, and those in it; and
@@ -76,8 +78,8 @@ pub record IsCutAtFront
   pub is_cut : IsCutPiece core.writer.version out piece cut
 
 -- the core stands for the world, with rings of this size: its channels hold those of the world, and
--- since the output held `first` the writer has written the world's pieces, and then, where the output
--- failed, a part of the first piece in some ring
+-- since the output held `first` the writer has written the world's pieces, and then, where the
+-- output failed, a part of the first piece in some ring
 pub record StandsForWorld
     (size : ℕ) (first : Option (List ℕ)) (core : CoreState) (world : WorldState) : Type 0 where
   pub channels_are : AllZip (HoldsChannel size) core.channels world.channels
@@ -97,8 +99,8 @@ pub record StandsCutAt
   pub written : HasWritten first world.out cut core.writer
   pub at_front : IsCutAtFront core channel world.out cut
 
--- the core stands for the world, and its output failed in a piece of this channel, or works if there
--- is none
+-- the core stands for the world, and its output failed in a piece of this channel, or works if
+-- there is none
 abbrev pub StandsWith :
     (size : ℕ) (first : Option (List ℕ)) → CoreState → WorldState → Option ℕ → Type 0
 StandsWith size first core world None =
@@ -137,8 +139,8 @@ failed_after (event ∷ events) (answer ∷ answers) failed =
 failed_after events answers failed = failed
 
 -- whatever world the core stood for and whatever channel's piece was cut, the answer to the event
--- leads to a world that the core stands for now, and the piece that is cut now is of the channel which
--- was answered first that the output failed
+-- leads to a world that the core stands for now, and the piece that is cut now is of the channel
+-- which was answered first that the output failed
 abbrev pub StepsCut : CoreState → CoreState → EventData → Result Reply CoreFault → Type 0
 StepsCut old new event answer =
     (size : ℕ) (first : Option (List ℕ)) (world : WorldState) (failed : Option ℕ)

@@ -1,5 +1,6 @@
 -- What the runs of a world write of each channel.
-use Rattle.std.specs.Prelude.{ℕ, ◌≡◌, ◌<◌, ◌^◌, ◌-◌, ◌++◌, true, min, List, length, map, All, Some, slice_get, Result}
+use Rattle.std.specs.Prelude.{ℕ, ◌≡◌, ◌<◌, ◌^◌, ◌-◌, ◌++◌, true, min, List, length, map, All, Some}
+use Rattle.std.specs.Prelude.{slice_get, Result}
 use Rattle.std.specs.List.{filter}
 use Rattle.rec_lane.specs.Offered.{frames_of, times_of}
 use Rattle.rec_lane.specs.Parts.{BeginsList}
@@ -10,7 +11,8 @@ use Rattle.rec_writer.specs.Writers.{WriterState, IsCutPiece}
 use Rattle.rec_core.specs.declared.reply.Reply.{Reply}
 use Rattle.rec_core.specs.declared.fault.CoreFault.{CoreFault}
 use Rattle.rec_core.specs.Openings.{SpecData, AreSpecs, HaveFilters}
-use Rattle.rec_core.specs.World.{ChannelState, WorldState, EventData, WorldRun, opening_world, produced}
+use Rattle.rec_core.specs.World.{ChannelState, WorldState, EventData, WorldRun, opening_world}
+use Rattle.rec_core.specs.World.{produced}
 
 -- some events and their answers lead to this world from the opening one of channels with filters
 abbrev pub RunsFromOpening : (ring : ℕ) → List SpecData → WorldState → Type 0
@@ -53,8 +55,8 @@ recorded_channel c =
 abbrev pub recorded_channels : WorldState → List RecordedChannel
 recorded_channels world = map recorded_channel world.channels
 
--- an output that failed: behind what it held it took the packets of the pieces that were written, as
--- many as the writer says, and then the first bytes of one further packet, as many as the writer
+-- an output that failed: behind what it held it took the packets of the pieces that were written,
+-- as many as the writer says, and then the first bytes of one further packet, as many as the writer
 -- says and fewer than all: that of the piece that some channel would have written next, which stays
 -- in its ring
 pub record IsCutShort (before : List ℕ) (writer : WriterState) (world : WorldState) : Type 0 where

@@ -1,6 +1,7 @@
 -- What a fault of a packet is to the export of a recording.
 use Rattle.rec_export.specs.declared.fault.ExportFault.{ExportFault}
-use Rattle.rec_export.specs.declared.fault.ExportFault.TheVariants.{Output as PacketOutput, Memory as PacketMemory}
+use Rattle.rec_export.specs.declared.fault.ExportFault.TheVariants.{Output as PacketOutput}
+use Rattle.rec_export.specs.declared.fault.ExportFault.TheVariants.{Memory as PacketMemory}
 use Rattle.rec_export.specs.declared.fault.ExportEnd.{ExportEnd}
 use Rattle.rec_export.specs.declared.fault.ExportEnd.TheVariants.{Output, Memory}
 

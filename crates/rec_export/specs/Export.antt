@@ -11,7 +11,8 @@ use Rattle.rec_export.specs.declared.version.FilterVersion.{FilterVersion}
 use Rattle.rec_export.specs.declared.version.LaterVersions.{LaterVersions}
 use Rattle.rec_export.specs.Frames.{frame_blocks}
 use Rattle.rec_export.specs.Versions.{filter_version, later_text, joined_by}
-use Rattle.rec_export.specs.Interfaces.{Interface, interface_block, number_of, is_described, later_of, with_interface}
+use Rattle.rec_export.specs.Interfaces.{Interface, interface_block, number_of, is_described}
+use Rattle.rec_export.specs.Interfaces.{later_of, with_interface}
 
 -- what is kept of an export: the origin of times in seconds, if one is given, and the interfaces
 pub record ExportState : Type 0 where
@@ -56,8 +57,8 @@ state_behind_frames state channel frames =
 abbrev pub blocks_of_version : ExportState → (channel : ℕ) → FilterVersion → List BlockData
 blocks_of_version state channel version = description state channel (Some version)
 
--- the filter's later versions that are still to be shown behind it: it is one of them, if it isn't the
--- comment of the interface
+-- the filter's later versions that are still to be shown behind it: it is one of them, if it isn't
+-- the comment of the interface
 abbrev pub later_with :
     (channel : ℕ) → FilterVersion → List Interface → Option LaterVersions
 later_with channel version interfaces =

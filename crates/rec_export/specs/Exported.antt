@@ -18,8 +18,8 @@ pub record IsExported (origin : Option ℕ) (recording : List ℕ) (old new : Op
   pub reads : Reads recording packets None
   pub taken : Appends old new (blocks_bytes (export_blocks origin packets))
 
--- the recording isn't read to its end for this reason, and the output took the export of the packets
--- before
+-- the recording isn't read to its end for this reason, and the output took the export of the
+-- packets before
 pub record StopsExport (origin : Option ℕ) (recording : List ℕ) (end : ReadEnd)
     (old new : Option (List ℕ)) : Type 0 where
   pub packets : List PacketData

@@ -1,5 +1,6 @@
 -- What a reader finds in the bytes of an export.
-use Rattle.std.specs.Prelude.{ℕ, ◌≡◌, ◌<◌, ◌≤◌, ◌==◌, List, [], ◌∷◌, ◌++◌, map, length, take, slice_get, Contains, Option, Some, IsSomeAnd}
+use Rattle.std.specs.Prelude.{ℕ, ◌≡◌, ◌<◌, ◌≤◌, ◌==◌, List, [], ◌∷◌, ◌++◌, map, length, take}
+use Rattle.std.specs.Prelude.{slice_get, Contains, Option, Some, IsSomeAnd}
 use Rattle.std.specs.Option.{option_map}
 use Rattle.std.specs.List.{IsDistinct}
 use Rattle.std.specs.Int.{w64, to_le_bytes}
@@ -12,7 +13,8 @@ use Rattle.rec_reader.specs.Packets.{PacketData}
 use Rattle.rec_reader.specs.ChannelFrames.{channel_frames}
 use Rattle.rec_export.specs.Interfaces.{channel_name}
 use Rattle.rec_export.specs.Comments.{sayings_on, only_text, frame_comments, interface_comments}
-use Rattle.rec_export.specs.Shown.{option_values, comments_in, uncommented, interfaces_in, frame_shown, frames_on, comments_on, names_in}
+use Rattle.rec_export.specs.Shown.{option_values, comments_in, uncommented, interfaces_in}
+use Rattle.rec_export.specs.Shown.{frame_shown, frames_on, comments_on, names_in}
 
 -- bytes are read as these blocks, and as no others
 pub record AreReadAs (bytes : List ℕ) (blocks : List BlockData) : Type 0 where
@@ -37,9 +39,9 @@ AreDescribedAhead blocks = (before behind : List BlockData) (packet : CapturedDa
     → blocks ≡ before ++ OfPacket packet ∷ behind → packet.interface < length (interfaces_in before)
 
 -- an interface is described as that of a channel: frames are Ethernet frames of any length, with
--- check sequences of 4 bytes; times are in units of 10^-7 seconds, since the origin, if there is one.
--- Each of these options is the only one of its code. The unit stands first, and the comments last,
--- since a reader may stop at one
+-- check sequences of 4 bytes; times are in units of 10^-7 seconds, since the origin, if there is
+-- one. Each of these options is the only one of its code. The unit stands first, and the comments
+-- last, since a reader may stop at one
 pub record DescribesChannel (origin : Option ℕ) (channel : ℕ) (comments : List (List ℕ))
     (interface : InterfaceData) : Type 0 where
   pub link : interface.link_type ≡ 1
@@ -74,8 +76,8 @@ pub record ShowChannels (origin : Option ℕ) (channels : List ℕ) (packets : L
   pub beyond : (number : ℕ) → length channels ≤ number → frames_on number blocks ≡ []
   pub others : (channel : ℕ) → ¬ Contains channels channel → channel_frames channel packets ≡ []
 
--- the output took bytes that are read as blocks, as one list of them and no other, and these show the
--- frames of the packets, channel by channel
+-- the output took bytes that are read as blocks, as one list of them and no other, and these show
+-- the frames of the packets, channel by channel
 pub record ShowsPackets (origin : Option ℕ) (packets : List PacketData) (old new : Option (List ℕ))
     : Type 0 where
   pub bytes : List ℕ

@@ -1,5 +1,6 @@
 -- A channel's frames as the packets of an interface.
-use Rattle.std.specs.Prelude.{ℕ, ◌+◌, ◌*◌, ◌<◌, ◌^◌, ◌==◌, ◌||◌, Bool, IfSome, codes, nat_lt, length, if◌then◌else◌, List, [], ◌∷◌, ◌++◌, Option, None, Some}
+use Rattle.std.specs.Prelude.{ℕ, ◌+◌, ◌*◌, ◌<◌, ◌^◌, ◌==◌, ◌||◌, Bool, IfSome, codes, nat_lt}
+use Rattle.std.specs.Prelude.{length, if◌then◌else◌, List, [], ◌∷◌, ◌++◌, Option, None, Some}
 use Rattle.std.specs.Borrow.{Bor}
 use Rattle.std.specs.Option.{option_map}
 use Rattle.std.specs.Fmt.{decimal}
@@ -22,8 +23,8 @@ abbrev pub comment_options : Option (List ℕ) → List OptionData
 comment_options None = []
 comment_options (Some text) = comment_option text ∷ []
 
--- the flags of a frame with an error: four bytes of check sequence from bit 5, a wrong check sequence
--- at bit 24, and another fault, as that of a symbol, at bit 31
+-- the flags of a frame with an error: four bytes of check sequence from bit 5, a wrong check
+-- sequence at bit 24, and another fault, as that of a symbol, at bit 31
 abbrev pub packet_flags : (crc_error frame_error : Bool) → ℕ
 packet_flags crc_error frame_error =
     4 * 2 ^ 5 + (if crc_error then 2 ^ 24 else 0) + (if frame_error then 2 ^ 31 else 0)
@@ -64,8 +65,8 @@ frame_options comment frame =
     flag_options frame.crc_error frame.frame_error
     ++ (comment_options comment ++ comment_options (note_of frame))
 
--- a frame as a packet of an interface, with this comment: its counter is the time, and its bytes end
--- with its check sequence
+-- a frame as a packet of an interface, with this comment: its counter is the time, and its bytes
+-- end with its check sequence
 abbrev pub captured : (interface : ℕ) (comment : Option (List ℕ)) → ReadFrameData → BlockData
 captured interface comment frame = packet_with interface frame (frame_options comment frame)
 

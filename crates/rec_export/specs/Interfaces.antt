@@ -1,9 +1,11 @@
 -- The channels of a recording as the interfaces of a pcapng file.
-use Rattle.std.specs.Prelude.{ℕ, ◌==◌, Bool, codes, nat_lt, slice_set, slice_get, if◌then◌else◌, List, [], ◌∷◌, ◌++◌, map, length, Option, None, Some}
+use Rattle.std.specs.Prelude.{ℕ, ◌==◌, Bool, codes, nat_lt, slice_set, slice_get, if◌then◌else◌}
+use Rattle.std.specs.Prelude.{List, [], ◌∷◌, ◌++◌, map, length, Option, None, Some}
 use Rattle.std.specs.Option.{option_map, option_and_then}
 use Rattle.std.specs.List.{position_or_len}
 use Rattle.std.specs.Fmt.{decimal}
-use Rattle.pcapng_blocks.specs.Options.{OptionData, name_option, resolution_option, fcs_len_option, offset_option}
+use Rattle.pcapng_blocks.specs.Options.{OptionData, name_option, resolution_option, fcs_len_option}
+use Rattle.pcapng_blocks.specs.Options.{offset_option}
 use Rattle.pcapng_blocks.specs.Blocks.{BlockData}
 use Rattle.pcapng_blocks.specs.Blocks.BlockData.{OfInterface}
 use Rattle.rec_export.specs.declared.version.FilterVersion.{FilterVersion}
@@ -30,8 +32,8 @@ description_options comment name origin =
     (resolution_option 7 ∷ name_option name ∷ fcs_len_option 4 ∷ offset_options origin)
     ++ comment_options comment
 
--- the interface of a channel, of Ethernet frames of any length: the filter's version is a comment, if
--- it is known, and the channel the name
+-- the interface of a channel, of Ethernet frames of any length: the filter's version is a comment,
+-- if it is known, and the channel the name
 abbrev pub interface_block :
     (origin : Option ℕ) (channel : ℕ) → Option FilterVersion → BlockData
 interface_block origin channel version = OfInterface (record {
@@ -50,7 +52,8 @@ pub record Interface : Type 0 where
 -- the interfaces of channels with these later versions
 abbrev pub interfaces_of : List (ℕ × Option LaterVersions) → List Interface
 interfaces_of channels =
-    map (λ (entry : ℕ × Option LaterVersions). record { channel = entry.0; later = entry.1 }) channels
+    map (λ (entry : ℕ × Option LaterVersions).
+    record { channel = entry.0; later = entry.1 }) channels
 
 -- the number of a channel's interface; that of the next one, if the channel has none
 abbrev pub number_of : (channel : ℕ) → List Interface → ℕ

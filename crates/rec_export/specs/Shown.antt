@@ -86,7 +86,8 @@ interfaces_in (OfPacket packet ∷ blocks) = interfaces_in blocks
 
 -- the names of the interfaces among blocks, in order
 abbrev pub names_in : List BlockData → List (Option (List ℕ))
-names_in blocks = map (λ (interface : InterfaceData). name_in interface.options) (interfaces_in blocks)
+names_in blocks =
+    map (λ (interface : InterfaceData). name_in interface.options) (interfaces_in blocks)
 
 -- the name of a channel's interface
 abbrev pub interface_name : Interface → Option (List ℕ)

@@ -26,8 +26,8 @@ joined_by None version = One version
 joined_by (Some (One first)) version = Several first.number version
 joined_by (Some (Several first last)) version = Several first version
 
--- what is said of a filter's later versions: of one what it is; of several the numbers of the first and
--- the last, and as many instructions as the last has
+-- what is said of a filter's later versions: of one what it is; of several the numbers of the first
+-- and the last, and as many instructions as the last has
 abbrev pub later_text : LaterVersions → List ℕ
 later_text (One version) = version_text version
 later_text (Several first last) =

@@ -1,14 +1,13 @@
 -- The frames of channels in a joined recording.
-use Rattle.std.proofs.Common.{ℕ, ◌≡◌, ◌+◌, List, [], ◌∷◌, ◌++◌, map, drop, refl, sym, ◌∙◌, ap, subst, append_assoc, append-nil}
+use Rattle.std.proofs.Common.{ℕ, ◌≡◌, ◌+◌, List, [], ◌∷◌, ◌++◌, map, refl, sym, ◌∙◌, ap, subst, append_assoc, append-nil}
 use Rattle.std.proofs.Common.{true, false, true≢false, eq-eqb, inl, inr}
 use Rattle.std.specs.Prelude.{◌==◌, if◌then◌else◌, Bool, Option}
-use Rattle.std.specs.List.{AllByRecursion, flat_map}
+use Rattle.std.specs.List.{AllByRecursion}
 use Rattle.std.proofs.lemmas.Bool.{cases_Bool, eqb-true, ne_eqb}
-use Rattle.std.proofs.lemmas.Grind.{flat_map-append}
 use Rattle.ch11_packet.specs.declared.header.TheConstants.{ETHERNET_DATA}
 use Rattle.ch11_packet.specs.declared.class.What.{What}
 use Rattle.ch11_packet.specs.declared.class.What.TheVariants.{Frames, Program, End, Other}
-use Rattle.ch11_packet.specs.Classes.{HasClass, Holds, data_in, said_frames}
+use Rattle.ch11_packet.specs.Classes.{HasClass, data_in, said_frames}
 use Rattle.ch11_packet.specs.FramesRead.{ReadFrameData}
 use Rattle.ch11_packet.specs.Header.{HeaderData}
 use Rattle.ch11_packet.proofs.Classing.{said_by_body}
@@ -38,7 +37,7 @@ no_frames_either : (is : Bool) (one other : What) (bytes : List ℕ) → frames_
 no_frames_either true one two bytes none none_other = none
 no_frames_either false one two bytes none none_other = none_other
 
-said_moved : (moving : Moving) (header : HeaderData) (bytes : List ℕ) (count : ℕ) → HasClass header bytes (Frames count)
+pub said_moved : (moving : Moving) (header : HeaderData) (bytes : List ℕ) (count : ℕ) → HasClass header bytes (Frames count)
     → HaveCounters moving.counters (said_frames bytes)
     → said_frames (moved_data moving header.kind bytes) ≡ map (moved_frame moving.counters) (said_frames bytes)
 said_moved moving header bytes count has fit =

@@ -11,14 +11,16 @@ use Rattle.rec_joined.specs.MovedFrames.{moved_frame}
 -- the frames of a packet with their counters in the file, if its channel has this ID there
 abbrev pub frames_as : Moving → (id : ℕ) → PacketData → List ReadFrameData
 frames_as moving id packet =
-    if moving.ids packet.header.channel == id then map (moved_frame moving.counters) (packet_frames packet) else []
+    if moving.ids packet.header.channel == id then map (moved_frame moving.counters)
+    (packet_frames packet) else []
 
 -- those of a recording's packets, in order
 abbrev pub frames_for : Moving → (id : ℕ) → List PacketData → List ReadFrameData
 frames_for moving id packets = flat_map (frames_as moving id) packets
 
 -- and of several recordings', one behind the other
-abbrev pub frames_of_parts : {P : Type 0} → (id : ℕ) → List (Part P) → List (List PacketData) → List ReadFrameData
+abbrev pub frames_of_parts : {P : Type 0} → (id : ℕ) → List (Part P) → List (List PacketData)
+    → List ReadFrameData
 frames_of_parts id (part ∷ parts) (packets ∷ more) =
     frames_for (moving_of part.moves) id packets ++ frames_of_parts id parts more
 frames_of_parts id parts more = []

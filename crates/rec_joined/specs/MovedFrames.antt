@@ -26,4 +26,5 @@ moved_bytes counters (suc count) bytes =
 
 -- the counters that those of frames become have 48 bits
 abbrev pub HaveCounters : (counters : ℕ → ℕ) → List ReadFrameData → Type 0
-HaveCounters counters frames = AllByRecursion (λ (f : ReadFrameData). counters f.counter < 2 ^ 48) frames
+HaveCounters counters frames =
+    AllByRecursion (λ (f : ReadFrameData). counters f.counter < 2 ^ 48) frames

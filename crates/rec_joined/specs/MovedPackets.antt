@@ -1,6 +1,7 @@
--- A packet of a recording as it is in a file of several: with the counters, the channel ID and the numbers of records
--- of the file. It has as many bytes as before, and no data checksum.
-use Rattle.std.specs.Prelude.{ℕ, ◌≡◌, ◌≢◌, ◌⊎◌, Option, None, ◌+◌, ◌==◌, Bool, false, ◌-◌, ◌<◌, ◌^◌, if◌then◌else◌, min, List, ◌++◌, take, drop, Some}
+-- A packet of a recording as it is in a file of several: with the counters, the channel ID and the
+-- numbers of records of the file. It has as many bytes as before, and no data checksum.
+use Rattle.std.specs.Prelude.{ℕ, ◌≡◌, ◌≢◌, ◌⊎◌, Option, None, ◌+◌, ◌==◌, Bool, false, ◌-◌, ◌<◌, ◌^◌}
+use Rattle.std.specs.Prelude.{if◌then◌else◌, min, List, ◌++◌, take, drop, Some}
 use Rattle.std.specs.List.{AllByRecursion}
 use Rattle.std.specs.Int.{w16, to_le_bytes}
 use Rattle.ch11_packet.specs.declared.header.TheConstants.{ETHERNET_DATA}
@@ -17,7 +18,8 @@ use Rattle.rec_pieces.specs.declared.entry.PieceKind.TheVariants.{Uncounted}
 use Rattle.rec_pieces.specs.Entries.{PacketThere, packet_names}
 use Rattle.rec_pieces.specs.Listings.{packet_counters}
 use Rattle.rec_joined.specs.declared.fault.MoveFault.{MoveFault}
-use Rattle.rec_joined.specs.declared.fault.MoveFault.TheVariants.{Gap, Sum, Other as IsOther, Memory}
+use Rattle.rec_joined.specs.declared.fault.MoveFault.TheVariants.{Gap, Sum, Other as IsOther}
+use Rattle.rec_joined.specs.declared.fault.MoveFault.TheVariants.{Memory}
 use Rattle.rec_joined.specs.Moving.{Moving}
 use Rattle.rec_joined.specs.MovedFrames.{HaveCounters, moved_bytes}
 use Rattle.rec_joined.specs.MovedRecords.{FitRecords, leaves_out, raised_numbers}
@@ -27,7 +29,8 @@ abbrev pub moved_body : Moving → List ℕ → List ℕ
 moved_body moving bytes =
     take 4 bytes ++ moved_bytes moving.counters (count_in bytes) (drop 4 bytes)
 
--- a record with this channel ID and, behind it, these bytes; and with the ID and the numbers of the file
+-- a record with this channel ID and, behind it, these bytes; and with the ID and the numbers of the
+-- file
 abbrev pub record_with : (id : ℕ) → (numbers : List ℕ) → List ℕ → List ℕ
 record_with id numbers bytes = take 10 bytes ++ (to_le_bytes w16 id ++ numbers)
 
@@ -41,7 +44,8 @@ abbrev pub moved_data : Moving → (kind : ℕ) → List ℕ → List ℕ
 moved_data moving kind bytes =
     if kind == ETHERNET_DATA then moved_body moving bytes else moved_record moving bytes
 
--- a header: the channel is the file's if it is one, and the counter that of the file, or the greatest of 48 bits
+-- a header: the channel is the file's if it is one, and the counter that of the file, or the
+-- greatest of 48 bits
 abbrev pub moved_header : Moving → HeaderData → HeaderData
 moved_header moving header =
     header_of (if header.kind == ETHERNET_DATA then moving.ids header.channel else header.channel)
@@ -132,14 +136,19 @@ is_left_out moving packet = leaves_out moving.records packet.at packet.what
 abbrev pub IsPlaced : Moving → PacketData → Type 0
 IsPlaced moving packet = is_left_out moving packet ≡ false → IsMovable moving packet
 
--- the ID in the file of the channel whose end this is, if it was offered no frame; none where the file doesn't have it
+-- the ID in the file of the channel whose end this is, if it was offered no frame; none where the
+-- file doesn't have it
 abbrev pub IsUncountedAs : Moving → What → Option ℕ → Type 0
-IsUncountedAs moving (End channel offered kept) (Some id) = (offered ≡ 0) × (id ≡ moving.ids channel)
+IsUncountedAs moving (End channel offered kept) (Some id) =
+    (offered ≡ 0) × (id ≡ moving.ids channel)
 IsUncountedAs moving (End channel offered kept) None = (offered ≢ 0) ⊎ (moving.ids channel ≡ 0)
 IsUncountedAs moving what (Some id) = ⊥
 IsUncountedAs moving what None = Unit {0}
 
--- a packet is listed for a moved one: it is that, or the end of this channel that was offered no frame
-abbrev pub IsListedFor : (moved : PacketData) → (uncounted : Option ℕ) → (listed : PacketData) → Type 0
+-- a packet is listed for a moved one: it is that, or the end of this channel that was offered no
+-- frame
+abbrev pub IsListedFor : (moved : PacketData) → (uncounted : Option ℕ) → (listed : PacketData)
+    → Type 0
 IsListedFor moved None listed = listed ≡ moved
-IsListedFor moved (Some id) listed = (listed.at ≡ moved.at) × (packet_names listed ≡ Some (id, Uncounted))
+IsListedFor moved (Some id) listed =
+    (listed.at ≡ moved.at) × (packet_names listed ≡ Some (id, Uncounted))

@@ -1,6 +1,7 @@
 -- The programs and the ends of a channel, in a recording that follows others of its run.
-use Rattle.std.specs.Prelude.{ℕ, ◌≡◌, ◌+◌, ◌<◌, ◌^◌, ◌==◌, Bool, true, false, if◌then◌else◌, List, ◌++◌, take, drop, Option, None, Some}
-use Rattle.std.specs.Int.{w16, w32, w64, to_le_bytes}
+use Rattle.std.specs.Prelude.{ℕ, ◌+◌, ◌<◌, ◌^◌, ◌==◌, Bool, false, if◌then◌else◌, List, ◌++◌, drop}
+use Rattle.std.specs.Prelude.{Option, None, Some}
+use Rattle.std.specs.Int.{w32, w64, to_le_bytes}
 use Rattle.std.specs.Option.{unwrap_or}
 use Rattle.ch11_packet.specs.declared.class.What.{What}
 use Rattle.ch11_packet.specs.declared.class.What.TheVariants.{Frames, Program, End, Other}
@@ -9,9 +10,9 @@ use Rattle.eth_frame.specs.Bytes.{u32_at, u64_at}
 use Rattle.rec_runs.specs.declared.record_moves.RecordMoves.{RecordMoves}
 use Rattle.rec_runs.specs.Moves.{moves_for}
 
--- what is added to the versions of a channel's programs, to the numbers of their first frames and to that of the
--- frames offered, and to that of the frames kept; the place of a program that is left out; and whether the end is.
--- A number from 2^64 on, or a version from 2^32 on, fits none
+-- what is added to the versions of a channel's programs, to the numbers of their first frames and
+-- to that of the frames offered, and to that of the frames kept; the place of a program that is
+-- left out; and whether the end is. A number from 2^64 on, or a version from 2^32 on, fits none
 pub record RecordMoving : Type 0 where
   pub versions : ℕ
   pub offered : ℕ
@@ -59,7 +60,8 @@ is_program bytes = kind_in bytes == 1
 
 -- the bytes of a record behind its channel
 abbrev pub program_numbers : (version first : ℕ) → List ℕ → List ℕ
-program_numbers version first bytes = to_le_bytes w32 version ++ (to_le_bytes w64 first ++ drop 24 bytes)
+program_numbers version first bytes =
+    to_le_bytes w32 version ++ (to_le_bytes w64 first ++ drop 24 bytes)
 
 abbrev pub end_numbers : (offered kept : ℕ) → List ℕ → List ℕ
 end_numbers offered kept bytes = to_le_bytes w64 offered ++ (to_le_bytes w64 kept ++ drop 28 bytes)
@@ -67,7 +69,8 @@ end_numbers offered kept bytes = to_le_bytes w64 offered ++ (to_le_bytes w64 kep
 abbrev pub raised_numbers : RecordMoving → List ℕ → List ℕ
 raised_numbers moving bytes =
     if is_program bytes
-    then program_numbers (moving.versions + u32_at bytes 12) (moving.offered + u64_at bytes 16) bytes
+    then program_numbers (moving.versions + u32_at bytes 12)
+    (moving.offered + u64_at bytes 16) bytes
     else end_numbers (moving.offered + u64_at bytes 12) (moving.kept + u64_at bytes 20) bytes
 
 -- the numbers of a record fit their fields

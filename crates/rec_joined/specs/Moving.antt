@@ -8,8 +8,8 @@ use Rattle.ch11_channels.specs.GivenIds.{is_owned_by}
 use Rattle.rec_joined.specs.declared.moves.Moves.{Moves}
 use Rattle.rec_joined.specs.MovedRecords.{RecordMoving, records_given}
 
--- the counter of each counter, the ID of each channel ID, and what its records become; a counter from 2^48 on is none,
--- and so is the ID 0
+-- the counter of each counter, the ID of each channel ID, and what its records become; a counter
+-- from 2^48 on is none, and so is the ID 0
 pub record Moving : Type 0 where
   pub counters : ℕ → ℕ
   pub ids : ℕ → ℕ

@@ -37,7 +37,8 @@ pub(crate) fn add_body(
     ensures bytes { OnOk result (out.new.items
         ≡ out.old.items ++ moved_body (moving_of moves.now) held.now) }
     ensures fit { OnOk result (HaveCounters (moving_of moves.now).counters (said_frames held.now)) }
-    ensures gap { result ≡ Err Gap → ¬ HaveCounters (moving_of moves.now).counters (said_frames held.now) }
+    ensures gap { result ≡ Err Gap
+        → ¬ HaveCounters (moving_of moves.now).counters (said_frames held.now) }
     ensures other { result ≢ Err IsOther }
     ensures sum { result ≢ Err Sum }
 {

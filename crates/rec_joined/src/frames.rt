@@ -28,7 +28,8 @@ pub(crate) fn add_moved(
     requires { ∥ AreFrames count bytes.now ∥₁ }
     ensures bytes { OnOk result (out.new.items
         ≡ out.old.items ++ moved_bytes (moving_of moves.now).counters count bytes.now) }
-    ensures fit { OnOk result (HaveCounters (moving_of moves.now).counters (first_reads count bytes.now)) }
+    ensures fit { OnOk result
+        (HaveCounters (moving_of moves.now).counters (first_reads count bytes.now)) }
     ensures gap { result ≡ Err Gap
         → ¬ HaveCounters (moving_of moves.now).counters (first_reads count bytes.now) }
     ensures other { result ≢ Err IsOther }

@@ -70,12 +70,14 @@ impl<P: PacketsAt + Drop> Joined<P> {
         reader: &mut Reader<R>,
         moves: Moves,
     ) -> Result<(), JoinEnd>
-        ensures joined { OnOk result ((read : List (List PacketData)) (recording : List ℕ) (places : PacketPlaces)
+        ensures joined { OnOk result
+            ((read : List (List PacketData)) (recording : List ℕ) (places : PacketPlaces)
             → IsJoined P.there self.old read → HasRead recording [] reader.old
             → P.there packets ≡ Some places
             → ((own : List PacketData) → Reads recording own None → AreThere places own)
             → JoinsRecording P.there read recording (moving_of moves) self.new) }
-        ensures pushed { OnOk result ((part : Part P) × (self.new.parts.items ≡ self.old.parts.items ++ part ∷ [])
+        ensures pushed { OnOk result ((part : Part P)
+            × (self.new.parts.items ≡ self.old.parts.items ++ part ∷ [])
             × (part.packets ≡ packets) × (part.moves ≡ moves)) }
         ensures fault { IfErr result (λ end. (recording : List ℕ) → HasRead recording [] reader.old
             → FailsMoved (moving_of moves) recording end) }
@@ -107,7 +109,8 @@ impl<'j, P: PacketsAt> JoinedPackets<'j, P> {
     /// Those of these recordings, each behind the one before it.
     pub fn new(parts: &'j [Part<P>]) -> JoinedPackets<'j, P>
         ensures { (read : List (List PacketData)) → AreParts P.there 0 parts.entry.now read
-            → (places : PacketPlaces) × (⟦<JoinedPackets<'j, P> as PacketsAt>⟧.there result ≡ Some places)
+            → (places : PacketPlaces)
+            × (⟦<JoinedPackets<'j, P> as PacketsAt>⟧.there result ≡ Some places)
             × AreThere places (joined_packets parts.entry.now read) }
     {
         JoinedPackets { parts }

@@ -20,29 +20,34 @@ use rec_pieces::PacketsAt;
 /// Law: the packets of recordings that are joined, none of which follows another, are those of one recording. So what
 /// holds of the whole file of a recording holds of theirs.
 pub fn joined_recordings_are_a_recording<P: PacketsAt>()
-    ensures { (parts : List (Part P)) (read : List (List PacketData)) → AreParts P.there 0 parts read
+    ensures { (parts : List (Part P)) (read : List (List PacketData))
+        → AreParts P.there 0 parts read
         → KeepRecords parts → (bytes : List ℕ) × Reads bytes (joined_packets parts read) None }
 {}
 
 /// Law: they are listed as they are written, but for an end that was offered no frame: whatever those before it were
 /// offered, it is listed as one. What is written has the same frames.
 pub fn joined_recordings_are_listed_as_they_tell<P: PacketsAt>()
-    ensures listed { (parts : List (Part P)) (read : List (List PacketData)) → AreParts P.there 0 parts read
+    ensures listed { (parts : List (Part P)) (read : List (List PacketData))
+        → AreParts P.there 0 parts read
         → AreListedAs (joined_told parts read) (joined_packets parts read) }
-    ensures frames { (parts : List (Part P)) (read : List (List PacketData)) → AreParts P.there 0 parts read
+    ensures frames { (parts : List (Part P)) (read : List (List PacketData))
+        → AreParts P.there 0 parts read
         → (id : ℕ) → channel_frames id (joined_told parts read) ≡ frames_of_parts id parts read }
 {}
 
 /// Law: of each channel ID they have the frames of the channels that get it, recording by recording, in order and
 /// once each, with their counters in the file and else as they were.
 pub fn joined_recordings_keep_each_channel<P: PacketsAt>()
-    ensures { (parts : List (Part P)) (read : List (List PacketData)) → AreParts P.there 0 parts read
+    ensures { (parts : List (Part P)) (read : List (List PacketData))
+        → AreParts P.there 0 parts read
         → (id : ℕ) → channel_frames id (joined_packets parts read) ≡ frames_of_parts id parts read }
 {}
 
 /// Law: where no two channels of a recording get one ID, the frames with an ID are those of the channel that gets it.
 pub fn an_id_has_the_frames_of_its_channel()
-    ensures { (moving : Moving) (channel id : ℕ) (packets : List PacketData) → HasOwnId moving channel id
+    ensures { (moving : Moving) (channel id : ℕ) (packets : List PacketData)
+        → HasOwnId moving channel id
         → frames_for moving id packets
         ≡ map (moved_frame moving.counters) (channel_frames channel packets) }
 {}

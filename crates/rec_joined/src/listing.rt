@@ -131,7 +131,8 @@ fn add_listed(
     moved: &OwnedPacket,
     uncounted: Option<u16>,
 ) -> Result<(), AllocError>
-    ensures { OnOk result ((before : List PacketData) (listed : PacketData) → IsListedFor moved.now uncounted listed
+    ensures { OnOk result ((before : List PacketData) (listed : PacketData)
+        → IsListedFor moved.now uncounted listed
         → ListsPackets before listing.old → ListsPackets (before ++ listed ∷ []) listing.new) }
 {
     let packet = moved.packet();

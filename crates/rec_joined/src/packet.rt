@@ -34,7 +34,8 @@ pub fn moved_packet(
     at: u64,
     moves: &Moves,
 ) -> Result<OwnedPacket, MoveFault>
-    ensures moved { IfOk result (λ moved. moved ≡ moved_packet (moving_of moves.now) at packet.now) }
+    ensures moved { IfOk result
+        (λ moved. moved ≡ moved_packet (moving_of moves.now) at packet.now) }
     ensures there { IfOk result (λ moved. (there : PacketThere) → IsThere there packet.now
         → IsThere (moved_there (moving_of moves.now) there) moved) }
     ensures movable { IfOk result (λ _. IsMovable (moving_of moves.now) packet.now) }
@@ -84,7 +85,8 @@ fn moved_body(
         (data_in (header_data packet.now.header) packet.now.body.now)
         ++ drop packet.now.header.data_len packet.now.body.now) }
     ensures fit { OnOk result (HaveMovable (moving_of moves.now) (packet_data packet.now)) }
-    ensures numbers { OnOk result (FitRecords (moving_of moves.now).records (packet_data packet.now).what) }
+    ensures numbers { OnOk result
+        (FitRecords (moving_of moves.now).records (packet_data packet.now).what) }
     ensures fault { IfErr result (IsNotMoved (moving_of moves.now) (packet_data packet.now)) }
 {
     let mut body = Vec::with_capacity(alloc, packet.body.len())?;
@@ -101,7 +103,8 @@ fn add_held(out: &mut Vec<u8>, packet: &Packet<'_>, id: u16, moves: &Moves) -> R
         ++ moved_data (moving_of moves.now) packet.now.header.kind
         (data_in (header_data packet.now.header) packet.now.body.now)) }
     ensures fit { OnOk result (HaveMovable (moving_of moves.now) (packet_data packet.now)) }
-    ensures numbers { OnOk result (FitRecords (moving_of moves.now).records (packet_data packet.now).what) }
+    ensures numbers { OnOk result
+        (FitRecords (moving_of moves.now).records (packet_data packet.now).what) }
     ensures fault { IfErr result (IsNotMoved (moving_of moves.now) (packet_data packet.now)) }
 {
     match packet.what {

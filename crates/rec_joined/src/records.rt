@@ -8,7 +8,8 @@ use rec_runs::RecordMoves;
 
 /// The version of a program and the number of its first frame, in the file: `None` if one of them doesn't fit.
 pub(crate) fn program_numbers(moves: RecordMoves, version: u32, first: u64) -> Option<(u32, u64)>
-    ensures version { IfSome result (λ numbers. numbers.0 ≡ (record_moving moves).versions + version) }
+    ensures version { IfSome result
+        (λ numbers. numbers.0 ≡ (record_moving moves).versions + version) }
     ensures first { IfSome result (λ numbers. numbers.1 ≡ (record_moving moves).offered + first) }
     ensures none { IfNone result (¬ (((record_moving moves).versions + version < 2 ^ 32)
         × ((record_moving moves).offered + first < 2 ^ 64))) }
@@ -25,7 +26,8 @@ pub(crate) fn program_numbers(moves: RecordMoves, version: u32, first: u64) -> O
 /// How many frames a channel was offered, and how many of them were kept, in the file: `None` if one of them doesn't
 /// fit.
 pub(crate) fn end_numbers(moves: RecordMoves, offered: u64, kept: u64) -> Option<(u64, u64)>
-    ensures offered { IfSome result (λ numbers. numbers.0 ≡ (record_moving moves).offered + offered) }
+    ensures offered { IfSome result
+        (λ numbers. numbers.0 ≡ (record_moving moves).offered + offered) }
     ensures kept { IfSome result (λ numbers. numbers.1 ≡ (record_moving moves).kept + kept) }
     ensures none { IfNone result (¬ (((record_moving moves).offered + offered < 2 ^ 64)
         × ((record_moving moves).kept + kept < 2 ^ 64))) }

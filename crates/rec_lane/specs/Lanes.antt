@@ -1,13 +1,16 @@
 -- What a lane holds, and the frames that it stands for.
-use Rattle.std.specs.Prelude.{ℕ, ◌≡◌, ◌≤◌, ◌==◌, Bool, false, if◌then◌else◌, List, [], ◌∷◌, ◌++◌, length, All, Option, None, Some, slice_get}
+use Rattle.std.specs.Prelude.{ℕ, ◌≡◌, ◌≤◌, ◌==◌, Bool, false, if◌then◌else◌, List, [], ◌∷◌, ◌++◌}
+use Rattle.std.specs.Prelude.{length, All, Option, None, Some, slice_get}
 use Rattle.bpf_insn.specs.declared.insn.Insn.{Insn}
 use Rattle.bpf_machine.specs.Machine.{Runs}
 use Rattle.eth_frame.specs.Frame.{FrameData, view}
 use Rattle.rec_channel.specs.History.{Version, InForce}
 use Rattle.rec_channel.specs.Slots.{programs_in}
-use Rattle.rec_lane.specs.Offered.{OfferedFrame, accepted, frames_of, times_of, noted_with, added_with, AllMet}
+use Rattle.rec_lane.specs.Offered.{OfferedFrame, accepted, frames_of, times_of, noted_with}
+use Rattle.rec_lane.specs.Offered.{added_with, AllMet}
 use Rattle.rec_lane.specs.Parts.{BeginsList}
-use Rattle.rec_lane.specs.Pieces.{LaneSettings, PieceData, last_group, last_counter, open_group_packet, pieces_so_far}
+use Rattle.rec_lane.specs.Pieces.{LaneSettings, PieceData, last_group, last_counter}
+use Rattle.rec_lane.specs.Pieces.{open_group_packet, pieces_so_far}
 use Rattle.rec_lane.specs.Pieces.{channel_pieces, ArePieces, ArePiecesSoFar}
 
 -- a version and its program
@@ -55,8 +58,8 @@ pub record HasMet (lane : LaneState) (offered : List OfferedFrame) : Type 0 wher
   pub current_is : lane.current ≡ version_of (last_group offered)
   pub pending_is : lane.pending ≡ open_group_packet lane.settings (last_group offered)
 
--- the lane stands for these frames, with these time marks after each, offered to a channel with this
--- history
+-- the lane stands for these frames, with these time marks after each, offered to a channel with
+-- this history
 abbrev pub LaneStandsFor : LaneState → List FrameData → List (List ℕ) → List Version → Type 0
 LaneStandsFor lane frames times history =
     (offered : List OfferedFrame)
@@ -92,7 +95,8 @@ abbrev pub MarkedFrom : ℕ → List Version → Type 0
 MarkedFrom number versions = All (λ (v : Version). number ≤ v.mark) versions
 
 -- at this number the version is in force, and this is its program
-pub record IsDrawn (history : List Version) (number version : ℕ) (program : List Insn) : Type 0 where
+pub record IsDrawn (history : List Version) (number version : ℕ)
+    (program : List Insn) : Type 0 where
   pub in_force : InForce history number version
   pub program_is : slice_get (programs_in history) version ≡ Some program
 
@@ -107,7 +111,8 @@ MakesCertain old f given =
     (before : List OfferedFrame) → HasMet old before
     → pieces_so_far old.settings (before ++ f ∷ []) ≡ pieces_so_far old.settings before ++ given
 
--- whatever frames the lane had met, it has met this time mark after them, if its packets have a span
+-- whatever frames the lane had met, it has met this time mark after them, if its packets have a
+-- span
 abbrev pub MeetsTime : LaneState → LaneState → (counter : ℕ) → Type 0
 MeetsTime old new counter =
     (before : List OfferedFrame) → HasMet old before
@@ -126,8 +131,8 @@ AreLeft lane given =
     (offered : List OfferedFrame) → HasMet lane offered
     → channel_pieces lane.settings offered ≡ pieces_so_far lane.settings offered ++ given
 
--- after this frame the lane stands for the frames with it, and these pieces became certain: whatever
--- frames and history it stood for, with versions installed since
+-- after this frame the lane stands for the frames with it, and these pieces became certain:
+-- whatever frames and history it stood for, with versions installed since
 abbrev pub TakesFrame :
     LaneState → LaneState → FrameData → (version : ℕ) → List Insn → List PieceData → Type 0
 TakesFrame old new frame version program given =

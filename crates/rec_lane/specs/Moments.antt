@@ -1,6 +1,7 @@
--- The packets of a group of frames where packets have a span beside their limit: a packet is closed by
--- the first moment that is a span after its first frame, or whose frame has no room.
-use Rattle.std.specs.Prelude.{ℕ, ◌≡◌, ◌≢◌, ◌+◌, ◌-◌, ◌%◌, ◌^◌, ◌<◌, ◌≤◌, ◌==◌, nat_le, Bool, true, false, not, if◌then◌else◌}
+-- The packets of a group of frames where packets have a span beside their limit: a packet is closed
+-- by the first moment that is a span after its first frame, or whose frame has no room.
+use Rattle.std.specs.Prelude.{ℕ, ◌≡◌, ◌≢◌, ◌+◌, ◌-◌, ◌%◌, ◌^◌, ◌<◌, ◌≤◌, ◌==◌, nat_le, Bool, true}
+use Rattle.std.specs.Prelude.{false, not, if◌then◌else◌}
 use Rattle.std.specs.Prelude.{List, [], ◌∷◌, ◌++◌, length, map, All, Option, None, Some}
 use Rattle.std.specs.List.{flat_map}
 use Rattle.eth_frame.specs.Frame.{FrameData}
@@ -64,8 +65,8 @@ joins limit span frames m =
 abbrev pub stays : (limit : ℕ) → Option ℕ → List Moment → Moment → Bool
 stays limit span moments m = joins limit span (kept_in moments) m
 
--- the packets of these moments: those that are closed, and the frames of the last one, to which more
--- may be added
+-- the packets of these moments: those that are closed, and the frames of the last one, to which
+-- more may be added
 abbrev pub closed_packets : (limit : ℕ) → Option ℕ → List Moment → List (List FrameData)
 closed_packets limit span moments = map kept_in (ended_parts (stays limit span) moments)
 
@@ -85,7 +86,8 @@ IsYoung span moments =
     (before after : List Moment) (m : Moment) → moments ≡ before ++ m ∷ after
     → is_span_due span (kept_in before) (moment_counter m) ≡ false
 
--- these moments are of one packet: its frames fit the limit, and no moment is a span after the first
+-- these moments are of one packet: its frames fit the limit, and no moment is a span after the
+-- first
 pub record AreTogether (limit : ℕ) (span : Option ℕ) (moments : List Moment) : Type 0 where
   pub fits : FitsLimit limit (kept_in moments)
   pub young : IsYoung span moments

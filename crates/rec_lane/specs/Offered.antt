@@ -1,5 +1,6 @@
 -- Frames that were offered to a channel, and those of them that its filter accepted.
-use Rattle.std.specs.Prelude.{ℕ, ◌≡◌, ◌+◌, ◌==◌, Bool, not, List, [], ◌∷◌, ◌++◌, map, All, Option, None, Some, slice_get}
+use Rattle.std.specs.Prelude.{ℕ, ◌≡◌, ◌+◌, ◌==◌, Bool, not, List, [], ◌∷◌, ◌++◌, map, All, Option}
+use Rattle.std.specs.Prelude.{None, Some, slice_get}
 use Rattle.std.specs.List.{filter}
 use Rattle.bpf_insn.specs.declared.insn.Insn.{Insn}
 use Rattle.bpf_machine.specs.Machine.{Runs}
@@ -8,7 +9,8 @@ use Rattle.rec_channel.specs.History.{Version, InForce}
 use Rattle.rec_channel.specs.Slots.{programs_in}
 
 -- a frame that was offered: its number, the version and the program that were in force at it, the
--- value that the program returned, and the counters of the time marks after it, before the next frame
+-- value that the program returned, and the counters of the time marks after it, before the next
+-- frame
 pub record OfferedFrame : Type 0 where
   pub number : ℕ
   pub frame : FrameData
@@ -24,8 +26,8 @@ frames_of offered = map (λ (f : OfferedFrame). f.frame) offered
 abbrev pub times_of : List OfferedFrame → List (List ℕ)
 times_of offered = map (λ (f : OfferedFrame). f.times) offered
 
--- the frames with one time mark more, after the last of them, and the time marks then; one before the
--- first frame is of none
+-- the frames with one time mark more, after the last of them, and the time marks then; one before
+-- the first frame is of none
 abbrev pub with_time : OfferedFrame → ℕ → OfferedFrame
 with_time f counter = record f { times = f.times ++ counter ∷ [] }
 

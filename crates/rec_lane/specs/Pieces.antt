@@ -1,6 +1,7 @@
 -- The pieces of a channel, in the order in which they are written: for each version that some frame
 -- met its program, and then its accepted frames in packets; last the channel's end.
-use Rattle.std.specs.Prelude.{ℕ, ◌≡◌, ◌≢◌, ◌==◌, Bool, true, false, List, [], ◌∷◌, ◌++◌, length, map, All, Option, Some, slice_get}
+use Rattle.std.specs.Prelude.{ℕ, ◌≡◌, ◌≢◌, ◌==◌, Bool, true, false, List, [], ◌∷◌, ◌++◌, length}
+use Rattle.std.specs.Prelude.{map, All, Option, Some, slice_get}
 use Rattle.std.specs.List.{flat_map}
 use Rattle.bpf_insn.specs.declared.insn.Insn.{Insn}
 use Rattle.eth_frame.specs.Frame.{FrameData}
@@ -70,8 +71,8 @@ abbrev pub data_piece : LaneSettings → List FrameData → PieceData
 data_piece settings frames =
     OfFrames settings.channel (body_of frames settings.net settings.speed settings.limit)
 
--- the packets of a group's accepted frames: all of them; those that are closed; and the frames of the
--- last one
+-- the packets of a group's accepted frames: all of them; those that are closed; and the frames of
+-- the last one
 abbrev pub group_packets : LaneSettings → List OfferedFrame → List (List FrameData)
 group_packets settings group = packets_of settings.limit settings.span (moments_of group)
 

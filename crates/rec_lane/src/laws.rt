@@ -85,7 +85,8 @@ pub fn a_packet_is_of_less_than_a_span()
     ensures frames { (settings : LaneSettings) (group : List OfferedFrame)
         → All (AreWithinSpan settings.span) (group_packets settings group) }
     ensures open { (limit span : ℕ) (moments : List Moment) (m : Moment) → 0 < span
-        → is_span_due (Some span) (open_packet limit (Some span) (moments ++ m ∷ [])) (moment_counter m)
+        → is_span_due (Some span) (open_packet limit (Some span) (moments ++ m
+        ∷ [])) (moment_counter m)
         ≡ false }
 {}
 

@@ -3,7 +3,8 @@ use Rattle.std.specs.Prelude.{ℕ, ◌≡◌, ◌==◌, if◌then◌else◌, Lis
 use Rattle.std.specs.List.{AllByRecursion, flat_map}
 use Rattle.ch11_packet.specs.declared.header.TheConstants.{HEADER_LEN}
 use Rattle.ch11_packet.specs.declared.class.What.{What}
-use Rattle.ch11_packet.specs.declared.class.What.TheVariants.{Frames as HoldsFrames, Program, End, Other}
+use Rattle.ch11_packet.specs.declared.class.What.TheVariants.{Frames as HoldsFrames, Program, End}
+use Rattle.ch11_packet.specs.declared.class.What.TheVariants.{Other}
 use Rattle.ch11_packet.specs.Header.{HeaderData, header_at}
 use Rattle.ch11_packet.specs.Classes.{data_in, said_frames}
 use Rattle.ch11_merge.specs.Merging.{FilePiece}
@@ -22,8 +23,8 @@ pieces_of Uncounted place counter bytes = OfRecord place None bytes ∷ []
 
 -- ---- by the packet
 
--- the channel that a packet of this channel names which holds this, and what it is in a whole file: nothing
--- if it is of any other kind, also frames of channel 0
+-- the channel that a packet of this channel names which holds this, and what it is in a whole file:
+-- nothing if it is of any other kind, also frames of channel 0
 abbrev pub named_by : (channel : ℕ) → What → Option (ℕ × PieceKind)
 named_by channel (HoldsFrames count) = if channel == 0 then None else Some (channel, Frames)
 named_by channel (Program named version first count) = Some (named, Record)

@@ -7,8 +7,10 @@ use Rattle.ch11_merge.specs.Parts.{pieces_left}
 use Rattle.rec_pieces.specs.BodiesSoFar.{IsBodySoFar}
 
 -- its pieces, of so many frames from this byte of its data on
-unfoldable pub pieces_in_hand : (place : ℕ) → (ahead : PieceSoFar) → (count at : ℕ) → List ℕ → List FilePiece
-pieces_in_hand place ahead count at bytes = pieces_left place ahead (first_reads count (drop at bytes))
+unfoldable pub pieces_in_hand : (place : ℕ) → (ahead : PieceSoFar) → (count at : ℕ) → List ℕ
+    → List FilePiece
+pieces_in_hand place ahead count at bytes =
+    pieces_left place ahead (first_reads count (drop at bytes))
 
 -- so many frames stand there
 pub record IsInHand (ahead : PieceSoFar) (count at : ℕ) (bytes : List ℕ) : Type 0 where

@@ -16,5 +16,6 @@ pub record ListsRecording (recording : List ℕ) (listing : PieceListing) : Type
 
 -- the recording isn't read to its end for this reason, behind these packets
 abbrev pub FailsListing : (recording : List ℕ) → ListingEnd → Type 0
-FailsListing recording (Reading end) = (packets : List PacketData) × Tells recording packets (Err end)
+FailsListing recording (Reading end) =
+    (packets : List PacketData) × Tells recording packets (Err end)
 FailsListing recording Memory = ⊤

@@ -6,7 +6,8 @@ use Rattle.std.specs.List.{filter, range_with_len}
 use Rattle.rec_reader.specs.Packets.{PacketData}
 use Rattle.rec_pieces.specs.declared.entry.PieceEntry.{PieceEntry}
 use Rattle.rec_pieces.specs.declared.listing.PieceListing.{PieceListing}
-use Rattle.rec_pieces.specs.Listings.{entries_held, channel_entries, counters_of, least_of, other_of}
+use Rattle.rec_pieces.specs.Listings.{entries_held, channel_entries, counters_of, least_of}
+use Rattle.rec_pieces.specs.Listings.{other_of}
 
 -- the entries of a channel in it
 abbrev pub listed_entries : PieceListing → (channel : ℕ) → List PieceEntry
@@ -17,7 +18,8 @@ abbrev pub are_some : List PieceEntry → Bool
 are_some [] = false
 are_some (entry ∷ entries) = true
 
--- whether it has some of a channel, and the channel IDs below a number of which it has some, the least first
+-- whether it has some of a channel, and the channel IDs below a number of which it has some, the
+-- least first
 abbrev pub is_listed : PieceListing → (channel : ℕ) → Bool
 is_listed listing channel = are_some (listed_entries listing channel)
 

@@ -1,4 +1,5 @@
--- What is left of a channel: what is in hand of a packet, and the packets that are still to be read.
+-- What is left of a channel: what is in hand of a packet, and the packets that are still to be
+-- read.
 use Rattle.std.specs.Prelude.{ℕ, ◌≡◌, List, [], ◌∷◌, ◌++◌, drop, Option, None, Some, IfSome, refl}
 use Rattle.std.specs.Option.{option_map}
 use Rattle.std.specs.List.{flat_map}
@@ -33,7 +34,8 @@ pub record SourceState : Type 0 where
   pub left : Option (List FilePiece)
   pub head : Head
 
-abbrev pub source_state : (known : Option PacketPlaces) → List PieceEntry → (next : ℕ) → Option InHand
+abbrev pub source_state : (known : Option PacketPlaces) → List PieceEntry → (next : ℕ)
+    → Option InHand
     → SourceState
 source_state known entries next hand = record {
   left = option_map (λ places. pieces_held hand ++ pieces_to_come entries next places) known;

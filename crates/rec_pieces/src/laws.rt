@@ -28,7 +28,8 @@ pub fn packets_are_read_at_their_places()
 pub fn pieces_of_places_are_those_of_packets()
     ensures { (places : PacketPlaces) (packets : List PacketData) → AreThere places packets
         → (channel : ℕ)
-        → pieces_to_come (channel_entries channel packets) 0 places ≡ pieces_of_channel channel packets }
+        → pieces_to_come (channel_entries channel packets) 0 places
+        ≡ pieces_of_channel channel packets }
 {}
 
 /// Law: the frames in the pieces of a channel are those of the channel, in order and once each.

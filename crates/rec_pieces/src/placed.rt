@@ -66,7 +66,8 @@ impl<'f, F: PlacedRead> FileAt<'f, F> {
 
     /// The reader of the bytes from this place on.
     pub fn new(file: &'f F, at: u64) -> FileAt<'f, F>
-        ensures { ⟦<FileAt<'f, F> as Read>⟧.remaining result ≡ known_from (F.held file.entry.now) at }
+        ensures { ⟦<FileAt<'f, F> as Read>⟧.remaining result ≡ known_from
+            (F.held file.entry.now) at }
     {
         FileAt { file, at }
     }

@@ -1,6 +1,8 @@
 -- What an auditor keeps, and the packets that it stands for.
-use Rattle.std.specs.Prelude.{ℕ, ◌≡◌, ◌+◌, ◌^◌, ◌⊎◌, ◌↔◌, ◌==◌, nat_lt, if◌then◌else◌, List, [], ◌∷◌, ◌++◌, length}
-use Rattle.std.specs.Prelude.{Option, None, Some, IsSome, unwrap_or, Result, Ok, Err, MatchOption, MatchResult}
+use Rattle.std.specs.Prelude.{ℕ, ◌≡◌, ◌+◌, ◌^◌, ◌⊎◌, ◌↔◌, ◌==◌, nat_lt, if◌then◌else◌, List, []}
+use Rattle.std.specs.Prelude.{◌∷◌, ◌++◌, length}
+use Rattle.std.specs.Prelude.{Option, None, Some, IsSome, unwrap_or, Result, Ok, Err, MatchOption}
+use Rattle.std.specs.Prelude.{MatchResult}
 use Rattle.std.specs.Ordering.{nat_cmp}
 use Rattle.std.specs.BTreeMap.{BTreeMap, get}
 use Rattle.rec_reader.specs.declared.audits.answer.AuditFault.{AuditFault}

@@ -1,6 +1,7 @@
 -- The audit of a recording: its packets judged one by one, each after those before it, and then its
 -- channels at the end.
-use Rattle.std.specs.Prelude.{ℕ, ◌≡◌, ◌≢◌, ◌<◌, ◌≤◌, ◌⊎◌, ◌↔◌, Bool, true, false, List, [], ◌∷◌, ◌++◌, map}
+use Rattle.std.specs.Prelude.{ℕ, ◌≡◌, ◌≢◌, ◌<◌, ◌≤◌, ◌⊎◌, ◌↔◌, Bool, true, false, List, [], ◌∷◌}
+use Rattle.std.specs.Prelude.{◌++◌, map}
 use Rattle.std.specs.Prelude.{length, count_by, All, Contains, Option, None, Some, Result, Ok, Err}
 use Rattle.std.specs.List.Sorted.{IsStrictlyIncreasing}
 use Rattle.bpf_insn.specs.declared.insn.Insn.{Insn}
@@ -14,12 +15,15 @@ use Rattle.ch11_packet.specs.FramesRead.{ReadFrameData, frame_in}
 use Rattle.rec_reader.specs.declared.audits.answer.Audit.{Audit}
 use Rattle.rec_reader.specs.declared.audits.answer.AuditLine.{AuditLine}
 use Rattle.rec_reader.specs.declared.audits.answer.AuditFault.{AuditFault}
-use Rattle.rec_reader.specs.declared.audits.answer.AuditFault.TheVariants.{NoProgram, BadProgram, NotAccepted, Order, NoEnd, Counts, Memory}
+use Rattle.rec_reader.specs.declared.audits.answer.AuditFault.TheVariants.{NoProgram, BadProgram}
+use Rattle.rec_reader.specs.declared.audits.answer.AuditFault.TheVariants.{NotAccepted, Order}
+use Rattle.rec_reader.specs.declared.audits.answer.AuditFault.TheVariants.{NoEnd, Counts, Memory}
 use Rattle.rec_reader.specs.declared.audits.channel.ChannelProgram.{ChannelProgram}
 use Rattle.rec_reader.specs.declared.audits.channel.ChannelEnd.{ChannelEnd}
 use Rattle.rec_reader.specs.Packets.{PacketData}
 use Rattle.rec_reader.specs.ChannelFrames.{packet_frames, channel_frames}
-use Rattle.rec_reader.specs.Channels.{Saying, saying_of, IsNamed, programs_of, ends_of, last_program, last_end, capped}
+use Rattle.rec_reader.specs.Channels.{Saying, saying_of, IsNamed, programs_of, ends_of}
+use Rattle.rec_reader.specs.Channels.{last_program, last_end, capped}
 use Rattle.rec_reader.specs.Channels.Saying.{OfFrames, OfProgram, OfEnd}
 
 -- ---- frames
@@ -78,7 +82,8 @@ IsJudgement number None (OfFrames frames) None answer = answer ≡ Some (NoProgr
 IsJudgement number None (OfFrames frames) (Some program) None = All (Accepts program.insns) frames
 IsJudgement number None (OfFrames frames) (Some program) (Some fault) =
     (frame : ℕ) × (fault ≡ NotAccepted number frame) × RefusesFirst program.insns frames frame
-IsJudgement number None (OfProgram program) last None = FollowsProgram last program × Valid program.insns
+IsJudgement number None (OfProgram program) last None =
+    FollowsProgram last program × Valid program.insns
 IsJudgement number None (OfProgram program) last (Some fault) =
     ((fault ≡ Order number) × ¬ FollowsProgram last program)
     ⊎ ((fault ≡ BadProgram number) × FollowsProgram last program × ¬ Valid program.insns)

@@ -33,7 +33,8 @@ pub record PacketStandsFirst (at : ℕ) (packet : PacketData) (bytes more : List
 
 -- a packet stands first
 abbrev pub HasPacket : (at : ℕ) → List ℕ → Type 0
-HasPacket at bytes = (packet : PacketData) × (more : List ℕ) × PacketStandsFirst at packet bytes more
+HasPacket at bytes =
+    (packet : PacketData) × (more : List ℕ) × PacketStandsFirst at packet bytes more
 
 -- the packet that stands first was added to those before it, and these bytes are left
 abbrev pub Takes : (at : ℕ) → (bytes more : List ℕ) → (before after : List PacketData) → Type 0

@@ -1,5 +1,6 @@
 -- What a reader of a stream has left, and what it answers.
-use Rattle.std.specs.Prelude.{ℕ, ◌≡◌, ◌+◌, ◌^◌, ◌<◌, ◌⊎◌, List, [], ◌∷◌, length, Option, None, Some, IfSome, Result, Ok, Err}
+use Rattle.std.specs.Prelude.{ℕ, ◌≡◌, ◌+◌, ◌^◌, ◌<◌, ◌⊎◌, List, [], ◌∷◌, length, Option, None, Some}
+use Rattle.std.specs.Prelude.{IfSome, Result, Ok, Err}
 use Rattle.ch11_packet.specs.Header.{HeaderData}
 use Rattle.rec_reader.specs.declared.fault.ReadEnd.{ReadEnd}
 use Rattle.rec_reader.specs.declared.fault.ReadFaultKind.{ReadFaultKind}
@@ -92,7 +93,8 @@ IsBefore rest reader (Some (Err end)) = (end.at ≡ reader.at) × StopsOn rest e
 
 -- the reader has given these packets of these bytes, which are fewer than 2^64, and it stands
 -- where they end
-pub record HasRead (bytes : List ℕ) (packets : List PacketData) (reader : ReaderState) : Type 0 where
+pub record HasRead (bytes : List ℕ) (packets : List PacketData)
+    (reader : ReaderState) : Type 0 where
   pub few : length bytes < 2 ^ 64
   pub rest : List ℕ
   pub held : BeginsPackets 0 packets bytes rest

@@ -1,14 +1,20 @@
 -- What a recording's bytes read as: packets, and why a rest is none.
-use Rattle.std.specs.Prelude.{ℕ, ◌≡◌, ◌+◌, ◌<◌, ◌≤◌, ◌⊎◌, List, [], ◌∷◌, ◌++◌, length, take, Option, None, Some}
+use Rattle.std.specs.Prelude.{ℕ, ◌≡◌, ◌+◌, ◌<◌, ◌≤◌, ◌⊎◌, List, [], ◌∷◌, ◌++◌, length, take, Option}
+use Rattle.std.specs.Prelude.{None, Some}
 use Rattle.ch11_packet.specs.declared.header.TheConstants.{HEADER_LEN}
 use Rattle.ch11_packet.specs.declared.header.HeaderFault.{HeaderFault}
-use Rattle.ch11_packet.specs.declared.header.HeaderFault.TheVariants.{Sync as BadSync, Checksum as BadChecksum, Length as BadLength}
+use Rattle.ch11_packet.specs.declared.header.HeaderFault.TheVariants.{Sync as BadSync}
+use Rattle.ch11_packet.specs.declared.header.HeaderFault.TheVariants.{Checksum as BadChecksum}
+use Rattle.ch11_packet.specs.declared.header.HeaderFault.TheVariants.{Length as BadLength}
 use Rattle.ch11_packet.specs.Header.{HeaderData, IsHeader, HeaderHasFault, header_bytes}
 use Rattle.ch11_packet.specs.declared.class.ClassFault.{ClassFault}
-use Rattle.ch11_packet.specs.declared.class.ClassFault.TheVariants.{DataChecksum as BadSum, Body as BadBody}
+use Rattle.ch11_packet.specs.declared.class.ClassFault.TheVariants.{DataChecksum as BadSum}
+use Rattle.ch11_packet.specs.declared.class.ClassFault.TheVariants.{Body as BadBody}
 use Rattle.ch11_packet.specs.Classes.{HasClassFault}
 use Rattle.rec_reader.specs.declared.fault.ReadFaultKind.{ReadFaultKind}
-use Rattle.rec_reader.specs.declared.fault.ReadFaultKind.TheVariants.{Truncated, Sync, Checksum, Length, DataChecksum, Body, Device, Memory}
+use Rattle.rec_reader.specs.declared.fault.ReadFaultKind.TheVariants.{Truncated, Sync, Checksum}
+use Rattle.rec_reader.specs.declared.fault.ReadFaultKind.TheVariants.{Length, DataChecksum, Body}
+use Rattle.rec_reader.specs.declared.fault.ReadFaultKind.TheVariants.{Device, Memory}
 use Rattle.rec_reader.specs.Packets.{PacketData, BeginsPackets}
 
 -- ---- bytes that begin no packet
@@ -27,7 +33,8 @@ IsTruncated bytes =
 
 -- as many bytes as a header has, with this wrong about them
 abbrev pub HasHeaderFault : List ℕ → HeaderFault → Type 0
-HasHeaderFault bytes fault = (HEADER_LEN ≤ length bytes) × HeaderHasFault (take HEADER_LEN bytes) fault
+HasHeaderFault bytes fault =
+    (HEADER_LEN ≤ length bytes) × HeaderHasFault (take HEADER_LEN bytes) fault
 
 -- a header and its packet's body, with this wrong about them
 pub record HasBadPacket (bytes : List ℕ) (fault : ClassFault) : Type 0 where
@@ -40,7 +47,8 @@ pub record HasBadPacket (bytes : List ℕ) (fault : ClassFault) : Type 0 where
 
 -- why the bytes begin no packet: there are fewer than a header has; else its sync pattern, else its
 -- checksum, else its lengths are wrong; else there are fewer bytes than its packet has; else its
--- data checksum is wrong; else its body has a fault. No bytes have a fault of a device or of memory.
+-- data checksum is wrong; else its body has a fault. No bytes have a fault of a device or of
+-- memory.
 abbrev pub HasReadFault : List ℕ → ReadFaultKind → Type 0
 HasReadFault bytes Truncated = IsTruncated bytes
 HasReadFault bytes Sync = HasHeaderFault bytes BadSync

@@ -1,6 +1,7 @@
 -- The upgrade of a recording: its old packets, which have no data checksum, are given one, and each
 -- other packet stays as it is.
-use Rattle.std.specs.Prelude.{ℕ, ◌≡◌, ◌+◌, ◌<◌, ◌&&◌, nat_le, not, Bool, if◌then◌else◌, List, [], ◌∷◌, ◌++◌, map, length, take, count_by, Option}
+use Rattle.std.specs.Prelude.{ℕ, ◌≡◌, ◌+◌, ◌<◌, ◌&&◌, nat_le, not, Bool, if◌then◌else◌, List, []}
+use Rattle.std.specs.Prelude.{◌∷◌, ◌++◌, map, length, take, count_by, Option}
 use Rattle.std.specs.List.{flat_map}
 use Rattle.std.specs.Io.KnownBytes.{Appends}
 use Rattle.ch11_packet.specs.declared.header.TheConstants.{MAX_ETHERNET_PACKET_LEN}
@@ -21,16 +22,16 @@ use Rattle.rec_reader.specs.Audits.{is_other}
 
 -- ---- one packet
 
--- whether a packet is old: it holds frames, a program or an end; bits 1 and 0 of its flags are 0, so
--- it has no data checksum; and with one it isn't longer than the longest packet of Ethernet data
+-- whether a packet is old: it holds frames, a program or an end; bits 1 and 0 of its flags are 0,
+-- so it has no data checksum; and with one it isn't longer than the longest packet of Ethernet data
 abbrev pub is_old : PacketData → Bool
 is_old packet =
     not (is_other packet.what)
     && (not (has_bit packet.header.flags 1) && not (has_bit packet.header.flags 0))
     && nat_le (written_len WithSum packet.header.data_len) MAX_ETHERNET_PACKET_LEN
 
--- the header of an old packet with a data checksum: bits 1 and 0 of the flags, which were 0, are set,
--- and the packet length is that with the fewest bytes of filler; all else stays
+-- the header of an old packet with a data checksum: bits 1 and 0 of the flags, which were 0, are
+-- set, and the packet length is that with the fewest bytes of filler; all else stays
 abbrev pub checked_header : HeaderData → HeaderData
 checked_header header =
     record header {
@@ -94,16 +95,16 @@ counted_with counts packet =
 
 -- ---- an output that failed
 
--- the output failed at this packet, after those that are counted: it took the first bytes of what the
--- packet is in an upgrade, and not all
+-- the output failed at this packet, after those that are counted: it took the first bytes of what
+-- the packet is in an upgrade, and not all
 abbrev pub FailsAtPacket :
     PacketData → Upgraded → Option (List ℕ) → Option (List ℕ) → UpgradeFault → Type 0
 FailsAtPacket packet counts old new (Output whole bytes) =
     (whole ≡ capped (counts.packets + counts.copied))
     × AppendsPart old new (spelling_of (upgraded packet)) bytes
 
--- the output took the first `whole` of the packets as they are in an upgrade, and of the next one the
--- first `bytes` bytes, and not all
+-- the output took the first `whole` of the packets as they are in an upgrade, and of the next one
+-- the first `bytes` bytes, and not all
 pub record TakesFront
     (packets : List PacketData) (old new : Option (List ℕ)) (whole bytes : ℕ) : Type 0 where
   pub before : List PacketData

@@ -27,9 +27,9 @@ const MAX_SPARE: usize = 1_048_576;
 /// byte past a packet before that packet is answered. It keeps no packet that it gave.
 ///
 /// It reads a packet's header and its body apart, so give it a buffered input over a file or a
-/// device. Memory is taken for the packet that is read, and follows the bytes that have come: there
-/// is never room for more than 65,536 bytes beyond them, whatever length a header says. A packet that
-/// is given back has room for the next one; of one with room for more than 1,048,576 bytes none is kept.
+/// device. Memory is taken for the packet that is read, and follows the bytes that have come: of room
+/// that is taken at most 65,536 bytes are beyond them, whatever length a header says. The room of a packet
+/// that is given back is kept for the next one, unless it is of more than 1,048,576 bytes.
 #[derive(Debug, Drop)]
 pub struct Reader<R: Read> {
     alloc: Global,

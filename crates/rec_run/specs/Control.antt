@@ -1,5 +1,7 @@
--- What a control gave and was told, what its thread did, and what is answered to the changes of a channel.
-use Rattle.std.specs.Prelude.{ℕ, ◌≡◌, Bool, false, List, [], ◌∷◌, ◌++◌, length, true, map, ◌+◌, ◌==◌, take, drop, ◌≤◌, Contains, MatchBool}
+-- What a control gave and was told, what its thread did, and what is answered to the changes of a
+-- channel.
+use Rattle.std.specs.Prelude.{ℕ, ◌≡◌, Bool, false, List, [], ◌∷◌, ◌++◌, length, true, map, ◌+◌}
+use Rattle.std.specs.Prelude.{◌==◌, take, drop, ◌≤◌, Contains, MatchBool}
 use Rattle.std.specs.Arc.{arc_value}
 use Rattle.bpf_insn.specs.declared.insn.Insn.{Insn}
 use Rattle.rec_run.specs.declared.control.change.Change.{Change}
@@ -11,7 +13,8 @@ use Rattle.std.specs.List.{filter}
 use Rattle.rec_channel.specs.History.{Version}
 use Rattle.rec_channel.specs.Slots.{programs_in}
 use Rattle.rec_channel.specs.declared.limits.TheConstants.{MAX_VERSIONS}
-use Rattle.rec_run.specs.declared.control.change.Answer.TheVariants.{Installed, VersionsFull, NoChannel}
+use Rattle.rec_run.specs.declared.control.change.Answer.TheVariants.{Installed, VersionsFull}
+use Rattle.rec_run.specs.declared.control.change.Answer.TheVariants.{NoChannel}
 
 -- a change: a channel and its new program
 pub record Given : Type 0 where
@@ -49,7 +52,8 @@ IsOfLast changes channel =
     (earlier : List Given) × (last : Given)
     × (changes ≡ earlier ++ last ∷ []) × (last.channel ≡ channel)
 
-module _ {C : Type 0} (given : C → List Given) (answered : C → List Answered) (ended : C → Bool) where
+module _ {C : Type 0} (given : C → List Given) (answered : C → List Answered) (ended : C
+    → Bool) where
   -- it was told the answer of each change that it gave, and has not ended
   pub record MayBeAsked (control : C) : Type 0 where
     pub even : length (answered control) ≡ length (given control)
@@ -63,7 +67,8 @@ module _ {C : Type 0} (given : C → List Given) (answered : C → List Answered
     pub given_is : given after ≡ given before ++ map logged_change log
     pub told_is : answered after ≡ answered before ++ map logged_answer log
 
-module _ {C : Type 0} (given : C → List Given) (answered : C → List Answered) (ended : C → Bool) where
+module _ {C : Type 0} (given : C → List Given) (answered : C → List Answered) (ended : C
+    → Bool) where
   -- where the thread says that the control has ended, it has, and the log is all of it
   abbrev pub EndsControl : C → Controlled C → Type 0
   EndsControl before run =
@@ -85,8 +90,8 @@ programs_given changes = map (λ (g : Given). g.program) changes
 abbrev pub answers_in : List Answered → List Answer
 answers_in answers = map (λ (a : Answered). a.answer) answers
 
--- the answers to these changes of a channel, if these are the versions that come next: as long as there are
--- some, each is installed
+-- the answers to these changes of a channel, if these are the versions that come next: as long as
+-- there are some, each is installed
 abbrev pub answers_to : (version : ℕ) → List Version → List Given → List Answer
 answers_to version versions [] = []
 answers_to version [] (g ∷ gs) = VersionsFull ∷ answers_to (version + 1) [] gs
@@ -116,7 +121,8 @@ abbrev pub FollowsVersions : (channel version : ℕ) → List Version → List L
 FollowsVersions channel version versions [] = versions ≡ []
 FollowsVersions channel version versions (entry ∷ entries) =
     MatchBool (entry.told.channel == channel)
-    (IsNext version versions entry × FollowsVersions channel (version + 1) (drop 1 versions) entries)
+    (IsNext version versions entry
+    × FollowsVersions channel (version + 1) (drop 1 versions) entries)
     (FollowsVersions channel version versions entries)
 
 -- the first version of a channel has its first program, and the changes are the others

@@ -1,5 +1,7 @@
--- How a channel ends, and what its ending says of its source and of the frames that were taken from it.
-use Rattle.std.specs.Prelude.{ℕ, ◌+◌, ◌≡◌, ◌<◌, ◌⊎◌, List, [], ◌∷◌, ◌++◌, length, map, Option, Some, IfSome, IsSomeAnd}
+-- How a channel ends, and what its ending says of its source and of the frames that were taken from
+-- it.
+use Rattle.std.specs.Prelude.{ℕ, ◌+◌, ◌≡◌, ◌<◌, ◌⊎◌, List, [], ◌∷◌, ◌++◌, length, map, Option, Some}
+use Rattle.std.specs.Prelude.{IfSome, IsSomeAnd}
 use Rattle.eth_frame.specs.Frame.{FrameData}
 use Rattle.eth_frame.specs.Source.{Left, TimeMark, later_by}
 use Rattle.eth_frame.specs.declared.source.SourceEnding.{SourceEnding}
@@ -7,7 +9,8 @@ use Rattle.eth_frame.specs.declared.source.SourceEnding.TheVariants.{End, Fault}
 use Rattle.eth_frame.specs.declared.source.SourceFault.TheVariants.{Device}
 use Rattle.rec_lane.specs.Parts.{BeginsList}
 use Rattle.rec_run.specs.declared.ending.Ending.{Ending}
-use Rattle.rec_run.specs.declared.ending.Ending.TheVariants.{SourceEnd, SourceFault, Memory, CountFull, Stopped}
+use Rattle.rec_run.specs.declared.ending.Ending.TheVariants.{SourceEnd, SourceFault, Memory}
+use Rattle.rec_run.specs.declared.ending.Ending.TheVariants.{CountFull, Stopped}
 use Rattle.rec_run.specs.declared.ending.WorkerEnd.{WorkerEnd}
 use Rattle.rec_run.specs.declared.ending.WorkerEnd.TheVariants.{Ended, Link, History}
 
@@ -37,8 +40,8 @@ marks_from after [] = []
 marks_from after (ts ∷ more) =
     map (λ counter. record { after = after; counter = counter }) ts ++ marks_from (after + 1) more
 
--- .. it said these time marks after each of the frames, maybe some before them, and then what it says
--- now
+-- .. it said these time marks after each of the frames, maybe some before them, and then what it
+-- says now
 abbrev pub AreTimesTaken : Option Left → List (List ℕ) → Option Left → Type 0
 AreTimesTaken before times after =
     IfSome before (λ l. IsSomeAnd after (λ rest. (early : List ℕ)
@@ -49,7 +52,8 @@ abbrev pub AreFirstTimes : Option Left → List (List ℕ) → Type 0
 AreFirstTimes before times =
     IfSome before (λ l. (early : List ℕ) × BeginsList (marks_from 0 (early ∷ times)) l.times)
 
--- .. it said these time marks after each of the frames and no others, but maybe some before the first
+-- .. it said these time marks after each of the frames and no others, but maybe some before the
+-- first
 abbrev pub AreAllTimes : Option Left → List (List ℕ) → Type 0
 AreAllTimes before times =
     IfSome before (λ l. (early : List ℕ) × (l.times ≡ marks_from 0 (early ∷ times)))

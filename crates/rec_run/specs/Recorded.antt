@@ -1,5 +1,6 @@
 -- What a recording that ended is, and what one that was cut short has left.
-use Rattle.std.specs.Prelude.{ℕ, ◌≡◌, ◌<◌, ◌^◌, Bool, true, List, [], ◌∷◌, ◌++◌, length, map, All, Contains, Option}
+use Rattle.std.specs.Prelude.{ℕ, ◌≡◌, ◌<◌, ◌^◌, Bool, true, List, [], ◌∷◌, ◌++◌, length, map, All}
+use Rattle.std.specs.Prelude.{Contains, Option}
 use Rattle.std.specs.List.{filter, AllZip}
 use Rattle.std.specs.Arc.{arc_value}
 use Rattle.std.specs.Io.KnownBytes.{Appends}
@@ -81,7 +82,8 @@ module _ {S : Type 0}
     pub pieces_is : report.pieces ≡ shown (length pieces)
     pub bytes_is : report.bytes ≡ bytes_of version pieces
 
-module _ {C : Type 0} (given : C → List Given) (answered : C → List Answered) (ended : C → Bool) where
+module _ {C : Type 0} (given : C → List Given) (answered : C → List Answered) (ended : C
+    → Bool) where
   -- the control has ended: since before, it gave these changes and was told these answers, each
   -- that of the channel's history; where no job has the channel, that there is none
   pub record IsControlled {S : Type 0}

@@ -1,5 +1,6 @@
 -- What the report of a channel says of its job.
-use Rattle.std.specs.Prelude.{ℕ, List, map, ◌≡◌, ◌<◌, ◌≤◌, ◌^◌, [], ◌∷◌, length, All, Option, None, IsSome}
+use Rattle.std.specs.Prelude.{ℕ, List, map, ◌≡◌, ◌<◌, ◌≤◌, ◌^◌, [], ◌∷◌, length, All, Option, None}
+use Rattle.std.specs.Prelude.{IsSome}
 use Rattle.std.specs.Arc.{arc_value}
 use Rattle.std.specs.declared.sync.Arc.{Arc}
 use Rattle.std.specs.declared.alloc.Global.{Global}

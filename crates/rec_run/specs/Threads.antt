@@ -1,5 +1,7 @@
--- The jobs as they are prepared and as their workers run, what is known of a channel once its worker has ended, and what the threads have left.
-use Rattle.std.specs.Prelude.{◌≡◌, ◌+◌, List, [], length, map, All, ℕ, Option, ◌≤◌, Bool, false, ◌∷◌, ◌++◌, Contains, Vec, vec_len, vec_capacity}
+-- The jobs as they are prepared and as their workers run, what is known of a channel once its
+-- worker has ended, and what the threads have left.
+use Rattle.std.specs.Prelude.{◌≡◌, ◌+◌, List, [], length, map, All, ℕ, Option, ◌≤◌, Bool, false}
+use Rattle.std.specs.Prelude.{◌∷◌, ◌++◌, Contains, Vec, vec_len, vec_capacity}
 use Rattle.rtrb.specs.Ring.{received, sent, producer_capacity}
 use Rattle.rec_core.specs.Buffers.{return_places}
 use Rattle.rec_run.specs.declared.threads.setup.TheConstants.{SPARE_BUFFERS}
@@ -38,9 +40,9 @@ module _ {S : Type 0} where
   abbrev pub jobs_in : List (PreparedChannel S) → List (Job S)
   jobs_in ps = map job_in ps
 
-  -- its rings and its buffers are those of the model with rings of this size: that of its pieces has
-  -- as many places, its return ring has room for all buffers of the channel, and all but the one that
-  -- its lane has from the start are in it
+  -- its rings and its buffers are those of the model with rings of this size: that of its pieces
+  -- has as many places, its return ring has room for all buffers of the channel, and all but the
+  -- one that its lane has from the start are in it
   pub record IsSized (ring : ℕ) (p : PreparedChannel S) : Type 0 where
     pub pieces_places : producer_capacity p.tools.ring ≡ ring
     pub return_ring_places : producer_capacity p.returns ≡ return_places ring SPARE_BUFFERS
@@ -85,7 +87,8 @@ module _ {S : Type 0}
     pub sent : List PieceData
     pub begins : BeginsList (filter (is_of job.spec.channel) pieces) sent
     pub whole : j.remaining ≡ 0 → filter (is_of job.spec.channel) pieces ≡ sent
-    pub ran : RanAs left failures ended_as (spec_data job.spec) job.max j.done.end job.source j.done.source
+    pub ran : RanAs left failures ended_as
+        (spec_data job.spec) job.max j.done.end job.source j.done.source
         (versions_met j.done.met.items) sent j.done.offered j.done.kept
 
 -- ---- before and after
@@ -103,11 +106,13 @@ module _ {S W : Type 0} where
     pub none_joined : vec_len room.1 ≡ 0
     pub joined_fit : vec_len prepared ≤ vec_capacity room.1
     pub distinct : AreDistinctChannels (channels_of_jobs (jobs_in prepared.items))
-    pub known : numbered_channels tape.writer.numbers ≡ 0 ∷ channels_of_jobs (jobs_in prepared.items)
+    pub known : numbered_channels tape.writer.numbers ≡ 0
+        ∷ channels_of_jobs (jobs_in prepared.items)
     pub works : tape.writer.failed ≡ false
     pub no_bytes : tape.bytes ≡ 0
 
-module _ {C : Type 0} (given : C → List Given) (answered : C → List Answered) (ended : C → Bool) where
+module _ {C : Type 0} (given : C → List Given) (answered : C → List Answered) (ended : C
+    → Bool) where
   -- the control may be asked, and nothing is in the log
   pub record MayStart (control : C) (log : Vec Logged Global) : Type 0 where
     pub asked : MayBeAsked given answered ended control

@@ -1,5 +1,7 @@
--- The versions of a filter that a worker met, how their list grows, and how they stand beside a channel's history.
-use Rattle.std.specs.Prelude.{ℕ, ◌≡◌, ◌<◌, ◌≤◌, List, [], ◌∷◌, Some, slice_get, ◌-◌, ◌==◌, Bool, false, if◌then◌else◌, ◌++◌, length, Option, None}
+-- The versions of a filter that a worker met, how their list grows, and how they stand beside a
+-- channel's history.
+use Rattle.std.specs.Prelude.{ℕ, ◌≡◌, ◌<◌, ◌≤◌, List, [], ◌∷◌, Some, slice_get, ◌-◌, ◌==◌, Bool}
+use Rattle.std.specs.Prelude.{false, if◌then◌else◌, ◌++◌, length, Option, None}
 use Rattle.bpf_insn.specs.declared.insn.Insn.{Insn}
 use Rattle.rec_channel.specs.History.{Version}
 

@@ -1,11 +1,13 @@
 -- What a worker did with the frames of its source.
-use Rattle.std.specs.Prelude.{ℕ, ◌≡◌, ◌≤◌, List, [], ◌∷◌, ◌++◌, length, map, All, Option, None, Some, IsSome}
+use Rattle.std.specs.Prelude.{ℕ, ◌≡◌, ◌≤◌, List, [], ◌∷◌, ◌++◌, length, map, All, Option, None}
+use Rattle.std.specs.Prelude.{Some, IsSome}
 use Rattle.std.specs.Arc.{arc_value}
 use Rattle.eth_frame.specs.Frame.{FrameData, IsFrame}
 use Rattle.eth_frame.specs.Source.{Left}
 use Rattle.eth_frame.specs.declared.source.SourceEnding.{SourceEnding}
 use Rattle.rec_channel.specs.History.{Version}
-use Rattle.rec_lane.specs.Offered.{OfferedFrame, frames_of, times_of, noted_with, AreUntimed, accepted, AllMet}
+use Rattle.rec_lane.specs.Offered.{OfferedFrame, frames_of, times_of, noted_with, AreUntimed}
+use Rattle.rec_lane.specs.Offered.{accepted, AllMet}
 use Rattle.rec_lane.specs.Parts.{BeginsList}
 use Rattle.rec_lane.specs.Pieces.{LaneSettings, PieceData, pieces_so_far, channel_pieces}
 use Rattle.rec_lane.specs.Lanes.{LaneState, VersionProgram, HasMet}

@@ -1,7 +1,8 @@
 -- The steps of a worker: what it waits for, the offer of a frame to its lane, and a turn.
 use Rattle.std.specs.Prelude.{◌≡◌, true, ℕ, List, ◌⊎◌, Option, MatchOption}
 use Rattle.rec_lane.specs.Lanes.{LaneState, running, offered_now, Meets, MakesCertain}
-use Rattle.rec_run.specs.declared.ending.Ending.TheVariants.{SourceEnd, SourceFault, Memory, CountFull, Stopped}
+use Rattle.rec_run.specs.declared.ending.Ending.TheVariants.{SourceEnd, SourceFault, Memory}
+use Rattle.rec_run.specs.declared.ending.Ending.TheVariants.{CountFull, Stopped}
 use Rattle.rec_run.specs.declared.ending.WorkerEnd.{WorkerEnd}
 use Rattle.rec_run.specs.declared.ending.WorkerEnd.TheVariants.{Ended, Link, History}
 use Rattle.bpf_insn.specs.declared.insn.Insn.{Insn}

@@ -52,8 +52,10 @@ SendsLast lane stop end before after =
 module _ {S : Type 0}
     (left : S → Option Left) (failures : S → ℕ) (ended_as : S → Option SourceEnding) where
   -- the worker of this job, which had this end of its ring, did this
-  pub record KeepsWorker (job : Job S) (ring : Producer Piece Global AnyItems) (done : WorkerDone S) : Type 0 where
+  pub record KeepsWorker (job : Job S) (ring : Producer Piece Global AnyItems)
+      (done : WorkerDone S) : Type 0 where
     pub program_is : done.program ≡ job.program
     pub same_ring : SameProducer ring done.ring
     pub ran : RanAs left failures ended_as (spec_data job.spec) job.max done.end job.source
-        done.source (versions_met done.met.items) (pieces_data (sent done.ring)) done.offered done.kept
+        done.source (versions_met done.met.items)
+        (pieces_data (sent done.ring)) done.offered done.kept

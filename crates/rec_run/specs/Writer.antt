@@ -1,5 +1,6 @@
 -- What is written of what the workers sent, and the count of its bytes.
-use Rattle.std.specs.Prelude.{ℕ, ◌≡◌, ◌+◌, ◌-◌, ◌^◌, min, List, length, Bool, true, false, if◌then◌else◌, [], ◌∷◌, ◌++◌, map, count_by, All, Contains, Option}
+use Rattle.std.specs.Prelude.{ℕ, ◌≡◌, ◌+◌, ◌-◌, ◌^◌, min, List, length, Bool, true, false}
+use Rattle.std.specs.Prelude.{if◌then◌else◌, [], ◌∷◌, ◌++◌, map, count_by, All, Contains, Option}
 use Rattle.rec_lane.specs.Pieces.{PieceData, channel_of}
 use Rattle.rec_writer.specs.Encoding.{piece_packet, writer_output}
 use Rattle.std.specs.List.{filter}
@@ -17,7 +18,8 @@ use Rattle.rec_run.specs.declared.worker.thread.WorkerDone.{WorkerDone}
 use Rattle.rec_run.specs.declared.writer.line.WriterLine.{WriterLine}
 use Rattle.rec_run.specs.declared.worker.thread.Works.{Works}
 use Rattle.rec_run.specs.declared.writer.Wrote.{Wrote}
-use Rattle.rec_run.specs.declared.writer.Wrote.TheVariants.{Nothing, Piece as PieceWent, Failed, Link}
+use Rattle.rec_run.specs.declared.writer.Wrote.TheVariants.{Nothing, Piece as PieceWent, Failed}
+use Rattle.rec_run.specs.declared.writer.Wrote.TheVariants.{Link}
 
 -- a count that stays at the greatest number which it can show
 abbrev pub shown : ℕ → ℕ
@@ -144,7 +146,8 @@ module _ {S : Type 0} where
     pub writer_same : after ≡ writer
 
   abbrev pub WroteOne :
-      Wrote → (old new : WriterLine S) → (writer after : WriterState) → (bytes bytes_after : ℕ) → Type 0
+      Wrote → (old new : WriterLine S) → (writer after : WriterState) → (bytes bytes_after : ℕ)
+      → Type 0
   WroteOne Nothing old new writer after bytes bytes_after =
       WritesNone old new writer after × (bytes_after ≡ bytes)
   WroteOne PieceWent old new writer after bytes bytes_after =

@@ -1,5 +1,6 @@
 -- The programs of a channel in a file of recordings that follow one another.
-use Rattle.std.specs.Prelude.{ℕ, ◌+◌, ◌^◌, min, nat_le, Bool, true, if◌then◌else◌, List, [], ◌∷◌, Option, None, Some}
+use Rattle.std.specs.Prelude.{ℕ, ◌+◌, ◌^◌, min, nat_le, Bool, true, if◌then◌else◌, List, [], ◌∷◌}
+use Rattle.std.specs.Prelude.{Option, None, Some}
 use Rattle.bpf_insn.specs.declared.insn.Insn.{Insn}
 use Rattle.rec_reader.specs.declared.audits.channel.ChannelProgram.{ChannelProgram}
 
@@ -19,7 +20,8 @@ program_in_file added program = record {
   insns = program.insns;
 }
 
--- none of the programs, of which this is the one of the greatest version, has a greater version than this
+-- none of the programs, of which this is the one of the greatest version, has a greater version
+-- than this
 abbrev pub is_greatest_behind : (earlier : Option FileProgram) → (version : ℕ) → Bool
 is_greatest_behind None version = true
 is_greatest_behind (Some earlier) version = nat_le earlier.version version
@@ -32,7 +34,8 @@ greater_program earlier program =
 -- the one of the greatest version, of an earlier one and these; of several of that version the last
 abbrev pub greatest_behind : (earlier : Option FileProgram) → List FileProgram → Option FileProgram
 greatest_behind earlier [] = earlier
-greatest_behind earlier (program ∷ programs) = greatest_behind (greater_program earlier program) programs
+greatest_behind earlier (program ∷ programs) =
+    greatest_behind (greater_program earlier program) programs
 
 abbrev pub greatest_program : List FileProgram → Option FileProgram
 greatest_program programs = greatest_behind None programs

@@ -1,5 +1,7 @@
--- What becomes of the programs and the ends of the channels of a recording that follows others of its run.
-use Rattle.std.specs.Prelude.{ℕ, ◌≡◌, ◌==◌, Bool, true, false, if◌then◌else◌, List, [], ◌∷◌, ◌++◌, map, None, Some, unwrap_or}
+-- What becomes of the programs and the ends of the channels of a recording that follows others of
+-- its run.
+use Rattle.std.specs.Prelude.{ℕ, ◌≡◌, ◌==◌, Bool, true, false, if◌then◌else◌, List, [], ◌∷◌, ◌++◌}
+use Rattle.std.specs.Prelude.{map, None, Some, unwrap_or}
 use Rattle.std.specs.List.{find, list_any}
 use Rattle.std.specs.List.Sorted.{IsStrictlyIncreasing}
 use Rattle.rec_reader.specs.Packets.{PacketData}
@@ -33,7 +35,8 @@ abbrev pub moves_for : (channel : ℕ) → List RecordMoves → RecordMoves
 moves_for channel moves = unwrap_or (find (moves_channel channel) moves) (no_moves channel)
 
 -- the moves of a channel in a recording that follows these, where no later one is known that has it
-abbrev pub moves_of_record : (channel : ℕ) → (earlier : List (List PacketData)) → (own : List PacketData) → RecordMoves
+abbrev pub moves_of_record : (channel : ℕ) → (earlier : List (List PacketData))
+    → (own : List PacketData) → RecordMoves
 moves_of_record channel earlier own = record {
   channel = channel;
   versions = (moves_before channel earlier own).versions;
@@ -54,13 +57,17 @@ moves_in_state channel state = record {
   continues = false;
 }
 
--- the moves of all channels in it: one for each channel that it or one before it has, the least first
-pub record AreRecordMoves (earlier : List (List PacketData)) (own : List PacketData) (moves : List RecordMoves)
+-- the moves of all channels in it: one for each channel that it or one before it has, the least
+-- first
+pub record AreRecordMoves (earlier : List (List PacketData)) (own : List PacketData)
+    (moves : List RecordMoves)
     : Type 0 where
   pub each : (channel : ℕ) → moves_for channel moves ≡ moves_of_record channel earlier own
-  pub has : (channel : ℕ) → list_any (moves_channel channel) moves ≡ run_has channel (earlier ++ own ∷ [])
+  pub has : (channel : ℕ)
+      → list_any (moves_channel channel) moves ≡ run_has channel (earlier ++ own ∷ [])
   pub ascending : IsStrictlyIncreasing (map moved_channel moves)
 
 -- moves of which this channel has a later recording
 abbrev pub continued_in : (channel : ℕ) → RecordMoves → RecordMoves
-continued_in channel moves = if moves.channel == channel then record moves { continues = true } else moves
+continued_in channel moves =
+    if moves.channel == channel then record moves { continues = true } else moves

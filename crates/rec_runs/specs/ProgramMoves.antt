@@ -1,13 +1,15 @@
--- What becomes of the programs of a channel, of a recording that follows others: what is added to their versions, and
--- the one that is left out.
-use Rattle.std.specs.Prelude.{ℕ, ◌+◌, ◌==◌, ◌&&◌, Bool, if◌then◌else◌, List, [], ◌∷◌, ◌++◌, map, drop, Option, None, Some}
+-- What becomes of the programs of a channel, of a recording that follows others: what is added to
+-- their versions, and the one that is left out.
+use Rattle.std.specs.Prelude.{ℕ, ◌+◌, ◌==◌, ◌&&◌, Bool, if◌then◌else◌, List, [], ◌∷◌, ◌++◌, map}
+use Rattle.std.specs.Prelude.{drop, Option, None, Some}
 use Rattle.std.specs.Cmp.Lexicographic.{pointwise}
 use Rattle.std.specs.List.{flat_map}
 use Rattle.bpf_insn.specs.declared.insn.Insn.{Insn}
 use Rattle.rec_reader.specs.declared.audits.channel.ChannelProgram.{ChannelProgram}
 use Rattle.rec_reader.specs.Packets.{PacketData}
 use Rattle.rec_reader.specs.Channels.{saying_of, program_said}
-use Rattle.rec_runs.specs.FilePrograms.{FileProgram, file_version, program_in_file, greatest_program}
+use Rattle.rec_runs.specs.FilePrograms.{FileProgram, file_version, program_in_file}
+use Rattle.rec_runs.specs.FilePrograms.{greatest_program}
 
 -- ---- a recording's programs
 
@@ -21,7 +23,8 @@ placed_program at program = record { at = at; program = program }
 
 -- the programs of a channel that a packet says
 abbrev pub placed_said : (channel : ℕ) → PacketData → List PlacedProgram
-placed_said channel packet = map (placed_program packet.at) (program_said channel (saying_of packet))
+placed_said channel packet =
+    map (placed_program packet.at) (program_said channel (saying_of packet))
 
 -- those of packets, in order
 abbrev pub placed_programs : (channel : ℕ) → List PacketData → List PlacedProgram
@@ -37,12 +40,13 @@ is_same_insn one other =
 abbrev pub have_same_insns : (one other : List Insn) → Bool
 have_same_insns one other = pointwise is_same_insn one other
 
--- a recording's first program, of this version and these instructions, goes on with the file's last: its version is 0,
--- and it has the same instructions
+-- a recording's first program, of this version and these instructions, goes on with the file's
+-- last: its version is 0, and it has the same instructions
 abbrev pub repeats_last : (last : FileProgram) → (version : ℕ) → List Insn → Bool
 repeats_last last version insns = version == 0 && have_same_insns last.insns insns
 
--- what is added to the version of each program, and the place of the one that is left out, if one is
+-- what is added to the version of each program, and the place of the one that is left out, if one
+-- is
 pub record ProgramMoves : Type 0 where
   pub versions : ℕ
   pub same : Option ℕ
@@ -59,12 +63,14 @@ moved_after last = record { versions = file_version (last.version + 1); same = N
 abbrev pub moved_onto : (last : FileProgram) → (at : ℕ) → ProgramMoves
 moved_onto last at = record { versions = last.version; same = Some at }
 
--- what becomes of a recording's programs, where this is the last of the file so far: the one of the greatest version
+-- what becomes of a recording's programs, where this is the last of the file so far: the one of the
+-- greatest version
 abbrev pub moves_behind : (last : Option FileProgram) → List PlacedProgram → ProgramMoves
 moves_behind None programs = unmoved_programs
 moves_behind (Some last) [] = moved_after last
 moves_behind (Some last) (first ∷ programs) =
-    if repeats_last last first.program.version first.program.insns then moved_onto last first.at else moved_after last
+    if repeats_last last first.program.version first.program.insns
+    then moved_onto last first.at else moved_after last
 
 -- ---- the programs of the file
 
@@ -86,12 +92,14 @@ with_recording channel before recording =
     before ++ moved_programs (moves_behind (greatest_program before) programs) programs
 
 -- those of the recordings before, and of these that follow them
-abbrev pub with_recordings : (channel : ℕ) → List FileProgram → List (List PacketData) → List FileProgram
+abbrev pub with_recordings : (channel : ℕ) → List FileProgram → List (List PacketData)
+    → List FileProgram
 with_recordings channel before [] = before
 with_recordings channel before (recording ∷ recordings) =
     with_recordings channel (with_recording channel before recording) recordings
 
--- the programs of a channel in the file of these recordings, each of which follows the one before it
+-- the programs of a channel in the file of these recordings, each of which follows the one before
+-- it
 abbrev pub file_programs : (channel : ℕ) → List (List PacketData) → List FileProgram
 file_programs channel recordings = with_recordings channel [] recordings
 
@@ -100,5 +108,7 @@ abbrev pub last_in_file : (channel : ℕ) → List (List PacketData) → Option 
 last_in_file channel recordings = greatest_program (file_programs channel recordings)
 
 -- what becomes of the programs of a channel in a recording that follows these
-abbrev pub moves_before : (channel : ℕ) → (earlier : List (List PacketData)) → (own : List PacketData) → ProgramMoves
-moves_before channel earlier own = moves_behind (last_in_file channel earlier) (placed_programs channel own)
+abbrev pub moves_before : (channel : ℕ) → (earlier : List (List PacketData))
+    → (own : List PacketData) → ProgramMoves
+moves_before channel earlier own =
+    moves_behind (last_in_file channel earlier) (placed_programs channel own)

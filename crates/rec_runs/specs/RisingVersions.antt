@@ -18,7 +18,8 @@ version_in_file program = program.version
 
 -- the versions of the channel's programs in a recording rise; so do those of programs of the file
 abbrev pub RecordingRises : (channel : ℕ) → List PacketData → Type 0
-RecordingRises channel packets = VersionsRise 0 (map version_in_recording (programs_of channel packets))
+RecordingRises channel packets =
+    VersionsRise 0 (map version_in_recording (programs_of channel packets))
 
 abbrev pub FileRises : List FileProgram → Type 0
 FileRises programs = VersionsRise 0 (map version_in_file programs)

@@ -1,5 +1,6 @@
 -- What is kept of a channel of recordings that follow one another.
-use Rattle.std.specs.Prelude.{ℕ, ◌&&◌, Bool, true, false, not, if◌then◌else◌, List, [], ◌∷◌, ◌++◌, Option, None, Some}
+use Rattle.std.specs.Prelude.{ℕ, ◌&&◌, Bool, true, false, not, if◌then◌else◌, List, [], ◌∷◌, ◌++◌}
+use Rattle.std.specs.Prelude.{Option, None, Some}
 use Rattle.std.specs.Option.{option_map}
 use Rattle.bpf_insn.specs.declared.insn.Insn.{Insn}
 use Rattle.rec_reader.specs.declared.audits.channel.ChannelProgram.{ChannelProgram}
@@ -12,7 +13,9 @@ use Rattle.rec_runs.specs.declared.channel.LastProgram.{LastProgram}
 use Rattle.rec_runs.specs.declared.channel.EndSums.{EndSums}
 use Rattle.rec_runs.specs.declared.channel.ChannelRun.{ChannelRun}
 use Rattle.rec_runs.specs.FilePrograms.{FileProgram, program_in_file, greater_program}
-use Rattle.rec_runs.specs.ProgramMoves.{ProgramMoves, PlacedProgram, placed_programs, unmoved_programs, moves_behind, repeats_last, last_in_file, moves_before}
+use Rattle.rec_runs.specs.ProgramMoves.{ProgramMoves, PlacedProgram, placed_programs}
+use Rattle.rec_runs.specs.ProgramMoves.{unmoved_programs, moves_behind, repeats_last, last_in_file}
+use Rattle.rec_runs.specs.ProgramMoves.{moves_before}
 use Rattle.rec_runs.specs.RunSums.{sum_offered, sum_kept}
 
 -- ---- sums
@@ -35,8 +38,8 @@ sums_with sums end = record {
 
 -- ---- states
 
--- the last program of the file, what becomes of the programs of the recording in hand, whether it has one so far,
--- and the sums of the ends before it and so far
+-- the last program of the file, what becomes of the programs of the recording in hand, whether it
+-- has one so far, and the sums of the ends before it and so far
 pub record RunState : Type 0 where
   pub last : Option FileProgram
   pub moves : ProgramMoves
@@ -49,7 +52,8 @@ are_placed [] = false
 are_placed (program ∷ programs) = true
 
 -- the state of a channel after these recordings, of one that follows them with these packets so far
-abbrev pub state_of_run : (channel : ℕ) → (earlier : List (List PacketData)) → (own : List PacketData) → RunState
+abbrev pub state_of_run : (channel : ℕ) → (earlier : List (List PacketData))
+    → (own : List PacketData) → RunState
 state_of_run channel earlier own = record {
   last = last_in_file channel (earlier ++ own ∷ []);
   moves = moves_before channel earlier own;
@@ -70,9 +74,10 @@ unnamed_run = record {
 
 -- ---- steps
 
--- the version of the file's last program, if the recording's first goes on with it, which has this version and these
--- instructions; none for a later one
-abbrev pub version_gone_on_in : Option FileProgram → (begun : Bool) → (version : ℕ) → List Insn → Option ℕ
+-- the version of the file's last program, if the recording's first goes on with it, which has this
+-- version and these instructions; none for a later one
+abbrev pub version_gone_on_in : Option FileProgram → (begun : Bool) → (version : ℕ) → List Insn
+    → Option ℕ
 version_gone_on_in None begun version insns = None
 version_gone_on_in (Some last) begun version insns =
     if not begun && repeats_last last version insns then Some last.version else None
@@ -84,7 +89,8 @@ version_gone_on state version insns = version_gone_on_in state.last state.begun 
 abbrev pub with_program : RunState → FileProgram → RunState
 with_program state program = record state { last = greater_program state.last program }
 
--- with a program more of the recording: it goes on with the file's last, of this version, or is one of the file
+-- with a program more of the recording: it goes on with the file's last, of this version, or is one
+-- of the file
 abbrev pub with_own_program : (gone_on : Option ℕ) → (at : ℕ) → ChannelProgram → RunState → RunState
 with_own_program (Some version) at program state =
     record state { moves = record { versions = version; same = Some at }; begun = true }

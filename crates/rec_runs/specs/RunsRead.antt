@@ -17,17 +17,20 @@ abbrev pub state_in : BTreeMap ℕ ChannelRun → (channel : ℕ) → RunState
 state_in channels channel = state_held (get nat_cmp channels channel)
 
 -- the channel has this state now, and is there; each other one is as it was
-pub record SetsRun (old : BTreeMap ℕ ChannelRun) (channel : ℕ) (state : RunState) (new : BTreeMap ℕ ChannelRun)
+pub record SetsRun (old : BTreeMap ℕ ChannelRun) (channel : ℕ) (state : RunState)
+    (new : BTreeMap ℕ ChannelRun)
     : Type 0 where
   pub here : state_in new channel ≡ state
   pub there : is_some (get nat_cmp new channel) ≡ true
   pub others : (other : ℕ) → channel ≢ other → get nat_cmp new other ≡ get nat_cmp old other
 
--- these recordings are read, and these packets of the one that follows them: the channels of them are kept, each with
--- its state
-pub record RunStandsFor (records : RunRecords) (earlier : List (List PacketData)) (own : List PacketData) : Type 0 where
+-- these recordings are read, and these packets of the one that follows them: the channels of them
+-- are kept, each with its state
+pub record RunStandsFor (records : RunRecords) (earlier : List (List PacketData))
+    (own : List PacketData) : Type 0 where
   pub states : (channel : ℕ) → state_in records.channels channel ≡ state_of_run channel earlier own
-  pub has : (channel : ℕ) → is_some (get nat_cmp records.channels channel) ≡ run_has channel (earlier ++ own ∷ [])
+  pub has : (channel : ℕ)
+      → is_some (get nat_cmp records.channels channel) ≡ run_has channel (earlier ++ own ∷ [])
 
 -- whatever recordings and packets the one stands for, the other stands for them too
 abbrev pub StandsStill : RunRecords → RunRecords → Type 0

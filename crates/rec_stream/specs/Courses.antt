@@ -4,7 +4,8 @@ use Rattle.ch11_clock.specs.declared.civil.CivilTime.{CivilTime}
 use Rattle.ch11_clock.specs.CivilTime.{IsCivilTime}
 use Rattle.ch11_file.specs.declared.times.FileTimes.{FileTimes}
 
--- what the first time packet says, the time packets that are still to come, and the counter of the last setup record
+-- what the first time packet says, the time packets that are still to come, and the counter of the
+-- last setup record
 pub record Course : Type 0 where
   pub time : CivilTime
   pub times : FileTimes

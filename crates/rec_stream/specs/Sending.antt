@@ -1,6 +1,7 @@
 -- What went out of a stream, as the code keeps it.
 use Rattle.std.specs.Prelude.{ℕ, ◌+◌, ◌≡◌, ◌<◌, ◌%◌, ◌^◌, ◌==◌, Bool, max, suc, ⊤, List, [], ◌∷◌}
-use Rattle.std.specs.Prelude.{◌++◌, length, map, take, slice_index, slice_set, ℤ, Option, Some, IfSome}
+use Rattle.std.specs.Prelude.{◌++◌, length, map, take, slice_index, slice_set, ℤ, Option, Some}
+use Rattle.std.specs.Prelude.{IfSome}
 use Rattle.std.specs.List.{list_any}
 use Rattle.std.specs.Io.KnownBytes.{Appends}
 use Rattle.ch11_clock.specs.declared.origin.Origin.{Origin}
@@ -25,14 +26,17 @@ use Rattle.rec_stream.specs.declared.made.Made.{Made}
 use Rattle.rec_stream.specs.declared.named.Named.{Named}
 use Rattle.rec_stream.specs.declared.origin.PieceOrigin.{PieceOrigin}
 use Rattle.rec_stream.specs.declared.stage.Stage.{Stage}
-use Rattle.rec_stream.specs.declared.stage.Stage.TheVariants.{Waiting as WaitsFor, Begun as HasCourse}
+use Rattle.rec_stream.specs.declared.stage.Stage.TheVariants.{Waiting as WaitsFor}
+use Rattle.rec_stream.specs.declared.stage.Stage.TheVariants.{Begun as HasCourse}
 use Rattle.rec_stream.specs.declared.waiting.WaitingEnd.{WaitingEnd}
 use Rattle.rec_stream.specs.Courses.{Course}
 use Rattle.rec_stream.specs.SentStates.{StreamSent, stream_sent}
-use Rattle.rec_stream.specs.StreamPieces.{StreamPiece, AreNewEnds, is_end, stream_counter, stream_piece}
+use Rattle.rec_stream.specs.StreamPieces.{StreamPiece, AreNewEnds, is_end, stream_counter}
+use Rattle.rec_stream.specs.StreamPieces.{stream_piece}
 use Rattle.rec_stream.specs.declared.end.StreamEnd.{StreamEnd}
 use Rattle.rec_stream.specs.declared.end.StreamEnd.TheVariants.{Refused, Reading, Output, Memory}
-use Rattle.rec_stream.specs.declared.end.StreamRefusal.TheVariants.{Other, Origin as NoOrigin, Year, Full}
+use Rattle.rec_stream.specs.declared.end.StreamRefusal.TheVariants.{Other, Origin as NoOrigin, Year}
+use Rattle.rec_stream.specs.declared.end.StreamRefusal.TheVariants.{Full}
 use Rattle.rec_stream.specs.StreamBlocks.{StreamFacts, StreamState, StreamGoesOut, stream_begun}
 use Rattle.rec_stream.specs.Streams.{StreamStage, AreStream, late_behind, others_in}
 use Rattle.rec_stream.specs.Streams.StreamStage.{Waiting, Begun}
@@ -46,26 +50,32 @@ greatest_of greatest (b ∷ blocks) = greatest_of (max greatest b.counter) block
 -- ---- a packet
 
 -- a packet went out whole, and only the number of its channel counts on
-pub record StreamWritesWhole (old : StreamSent) (kind : BlockKind) (channel counter : ℕ) (body : List ℕ)
+pub record StreamWritesWhole (old : StreamSent) (kind : BlockKind) (channel counter : ℕ)
+    (body : List ℕ)
     (held now : Option (List ℕ)) (new : StreamSent) : Type 0 where
   pub header : IsHeader (head_with channel (slice_index old.numbers channel) counter kind body)
   pub grows : Appends held now
-      (packet_bytes WithSum (head_with channel (slice_index old.numbers channel) counter kind body) body)
+      (packet_bytes WithSum
+      (head_with channel (slice_index old.numbers channel) counter kind body) body)
   pub new_is : new ≡ stream_sent
-      (slice_set old.numbers channel ((slice_index old.numbers channel + 1) % 256)) old.greatest old.counts
+      (slice_set old.numbers channel
+      ((slice_index old.numbers channel + 1) % 256)) old.greatest old.counts
 
 -- a part of it went out, or nothing
-pub record StreamWritesPart (old : StreamSent) (kind : BlockKind) (channel counter : ℕ) (body : List ℕ)
+pub record StreamWritesPart (old : StreamSent) (kind : BlockKind) (channel counter : ℕ)
+    (body : List ℕ)
     (held now : Option (List ℕ)) : Type 0 where
   pub header : IsHeader (head_with channel (slice_index old.numbers channel) counter kind body)
   pub len : ℕ
   pub grows : Appends held now (take len
-      (packet_bytes WithSum (head_with channel (slice_index old.numbers channel) counter kind body) body))
+      (packet_bytes WithSum
+      (head_with channel (slice_index old.numbers channel) counter kind body) body))
 
 -- ---- all packets
 
 -- these packets went out, and this is known of them
-pub record StreamHasSent (before held : Option (List ℕ)) (sent : StreamSent) (blocks : List FileBlock) : Type 0 where
+pub record StreamHasSent (before held : Option (List ℕ)) (sent : StreamSent)
+    (blocks : List FileBlock) : Type 0 where
   pub numbered : AreNumbered [] blocks
   pub grows : Appends before held (file_bytes blocks)
   pub next : AreNextNumbers sent.numbers blocks
@@ -78,7 +88,8 @@ pub record StreamHasSent (before held : Option (List ℕ)) (sent : StreamSent) (
 -- ---- what goes out of one packet of the recording
 
 -- packets went out behind those ahead, and the stream stands here
-pub record HasGone (past : StreamPast) (held : Option (List ℕ)) (sent : StreamSent) (now : StreamState) : Type 0 where
+pub record HasGone (past : StreamPast) (held : Option (List ℕ)) (sent : StreamSent)
+    (now : StreamState) : Type 0 where
   pub blocks : List FileBlock
   pub go : StreamGoesOut past.facts past.start blocks now
   pub has_sent : StreamHasSent past.before held sent (past.ahead ++ blocks)
@@ -103,14 +114,16 @@ pub record IsCourse (facts : StreamFacts) (course : Course) (state : StreamState
   pub tells : IsTimeOf course.time first
 
 -- nothing went out of a stream that begins with pieces of this least counter
-pub record IsFreshStream (past : StreamPast) (least : ℕ) (left : List StreamPiece) (held : Option (List ℕ)) (sent : StreamSent)
+pub record IsFreshStream (past : StreamPast) (least : ℕ) (left : List StreamPiece)
+    (held : Option (List ℕ)) (sent : StreamSent)
     : Type 0 where
   pub begun : past.start ≡ stream_begun least left
   pub has_sent : StreamHasSent past.before held sent past.ahead
   pub greatest : sent.greatest ≡ 0
 
 -- packets went out, the times of the stream are these, and this is left
-pub record HasCome (past : StreamPast) (held : Option (List ℕ)) (sent : StreamSent) (course : Course)
+pub record HasCome (past : StreamPast) (held : Option (List ℕ)) (sent : StreamSent)
+    (course : Course)
     (left : List StreamPiece) : Type 0 where
   pub now : StreamState
   pub has_gone : HasGone past held sent now
@@ -118,7 +131,8 @@ pub record HasCome (past : StreamPast) (held : Option (List ℕ)) (sent : Stream
   pub left_is : now.left ≡ left
 
 -- besides, no time packet is due ahead of the first piece, which has this counter
-pub record IsReady (past : StreamPast) (held : Option (List ℕ)) (sent : StreamSent) (course : Course)
+pub record IsReady (past : StreamPast) (held : Option (List ℕ)) (sent : StreamSent)
+    (course : Course)
     (piece : StreamPiece) (others : List StreamPiece) (counter : ℕ) : Type 0 where
   pub now : StreamState
   pub has_gone : HasGone past held sent now
@@ -164,12 +178,15 @@ abbrev pub waits_in : List WaitingEnd → (channel : ℕ) → Bool
 waits_in ends channel = list_any (λ (end : WaitingEnd). end.origin.channel == channel) ends
 
 -- the pieces wait behind the ends, none of which is of their channels
-abbrev pub MayWait : (ends : List WaitingEnd) → (pieces : List StreamPiece) → (new : List WaitingEnd) → Type 0
+abbrev pub MayWait : (ends : List WaitingEnd) → (pieces : List StreamPiece)
+    → (new : List WaitingEnd) → Type 0
 MayWait ends pieces new =
-    (map waiting_piece new ≡ map waiting_piece ends ++ pieces) × AreNewEnds (map waiting_piece ends) pieces
+    (map waiting_piece new ≡ map waiting_piece ends ++ pieces)
+    × AreNewEnds (map waiting_piece ends) pieces
 
 -- why they don't: one of their channels waits already, or memory is out
-abbrev pub WaitFails : (ends : List WaitingEnd) → Named → (pieces : List FilePiece) → StreamEnd → Type 0
+abbrev pub WaitFails : (ends : List WaitingEnd) → Named → (pieces : List FilePiece) → StreamEnd
+    → Type 0
 WaitFails ends named pieces (Refused (Other at)) =
     (at ≡ named.at) × (¬ AreNewEnds (map waiting_piece ends) (origin_pieces named.origin pieces))
 WaitFails ends named pieces (Refused NoOrigin) = ⊥
@@ -181,13 +198,15 @@ WaitFails ends named pieces Memory = ⊤
 
 -- how far the code is with it
 abbrev pub IsStage : StreamFacts → Stage → StreamStage → List FileBlock → Type 0
-IsStage facts (WaitsFor ends) stage blocks = (stage ≡ Waiting (map waiting_piece ends.items)) × (blocks ≡ [])
+IsStage facts (WaitsFor ends) stage blocks =
+    (stage ≡ Waiting (map waiting_piece ends.items)) × (blocks ≡ [])
 IsStage facts (HasCourse course) stage blocks =
     (state : StreamState) × (stage ≡ Begun state) × IsCourse facts course state × (state.left ≡ [])
     × (state.greatest ≡ greatest_of 0 blocks)
 
 -- the stream of these packets went out
-pub record StreamStands (facts : StreamFacts) (before held : Option (List ℕ)) (sent : StreamSent) (stage : Stage)
+pub record StreamStands (facts : StreamFacts) (before held : Option (List ℕ)) (sent : StreamSent)
+    (stage : Stage)
     (packets : List PacketData) : Type 0 where
   pub blocks : List FileBlock
   pub now : StreamStage

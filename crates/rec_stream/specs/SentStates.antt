@@ -13,16 +13,26 @@ pub record StreamSent : Type 0 where
   pub counts : StreamCounts
 
 abbrev pub stream_sent : List ℕ → (greatest : ℕ) → StreamCounts → StreamSent
-stream_sent numbers greatest counts = record { numbers = numbers; greatest = greatest; counts = counts }
+stream_sent numbers greatest counts =
+    record { numbers = numbers; greatest = greatest; counts = counts }
 
 -- counts with a packet more of this kind and this counter
-abbrev pub stream_counts_behind : (greatest : ℕ) → StreamCounts → BlockKind → (counter : ℕ) → StreamCounts
+abbrev pub stream_counts_behind : (greatest : ℕ) → StreamCounts → BlockKind → (counter : ℕ)
+    → StreamCounts
 stream_counts_behind greatest c Setup counter = c
 stream_counts_behind greatest c Time counter = record c { times = capped (c.times + 1) }
 stream_counts_behind greatest c Frames counter =
-    record c { packets = capped (c.packets + 1); late = capped (c.late + late_one greatest counter) }
+    record c {
+      packets = capped (c.packets + 1);
+      late = capped
+          (c.late + late_one greatest counter);
+    }
 stream_counts_behind greatest c Record counter =
-    record c { records = capped (c.records + 1); late = capped (c.late + late_one greatest counter) }
+    record c {
+      records = capped (c.records + 1);
+      late = capped
+          (c.late + late_one greatest counter);
+    }
 stream_counts_behind greatest c Index counter = c
 
 -- with a packet more that is left out

@@ -1,5 +1,6 @@
 -- The packets that go out of pieces, one by one: the setup record, time packets, and the pieces.
-use Rattle.std.specs.Prelude.{ℕ, ◌+◌, ◌≡◌, ◌<◌, ◌≤◌, max, Bool, List, [], ◌∷◌, ◌++◌, ℤ, Option, None, Some}
+use Rattle.std.specs.Prelude.{ℕ, ◌+◌, ◌≡◌, ◌<◌, ◌≤◌, max, Bool, List, [], ◌∷◌, ◌++◌, ℤ, Option}
+use Rattle.std.specs.Prelude.{None, Some}
 use Rattle.ch11_packet.specs.Header.{IsHeader}
 use Rattle.ch11_clock.specs.declared.origin.Origin.{Origin}
 use Rattle.ch11_clock.specs.declared.civil.CivilTime.{CivilTime}
@@ -10,7 +11,8 @@ use Rattle.ch11_file.specs.declared.limits.TheConstants.{MAX_SETUP_LEN}
 use Rattle.ch11_file.specs.declared.kind.BlockKind.TheVariants.{Setup as SetupKind}
 use Rattle.ch11_file.specs.declared.setup.FileSetup.{FileSetup}
 use Rattle.ch11_file.specs.FileBlocks.{BlockContent, FileBlock, kind_of, block_header, block_len}
-use Rattle.ch11_file.specs.FileBlocks.BlockContent.{SetupBlock, TimeBlock, PieceBlock, NodeBlock, RootBlock}
+use Rattle.ch11_file.specs.FileBlocks.BlockContent.{SetupBlock, TimeBlock, PieceBlock, NodeBlock}
+use Rattle.ch11_file.specs.FileBlocks.BlockContent.{RootBlock}
 use Rattle.ch11_file.specs.FileTimes.{IsFirstTime, IsNextTick}
 use Rattle.ch11_file.specs.WholeFile.{block_channel, setup_text}
 use Rattle.rec_stream.specs.declared.limits.TheConstants.{SETUP_TICKS}
@@ -21,9 +23,9 @@ pub record StreamFacts : Type 0 where
   pub setup : FileSetup
   pub rules : List Origin
 
--- a stream that has begun: the least counter of the packet with which it began, the counter of the last setup
--- record and that of the last time packet, if they went out, the greatest counter of a header that went out, and
--- the pieces that are on their way
+-- a stream that has begun: the least counter of the packet with which it began, the counter of the
+-- last setup record and that of the last time packet, if they went out, the greatest counter of a
+-- header that went out, and the pieces that are on their way
 pub record StreamState : Type 0 where
   pub least : ℕ
   pub setup : Option ℕ
@@ -33,9 +35,11 @@ pub record StreamState : Type 0 where
 
 -- one of which nothing went out yet
 abbrev pub stream_begun : (least : ℕ) → List StreamPiece → StreamState
-stream_begun least left = record { least = least; setup = None; time = None; greatest = 0; left = left }
+stream_begun least left =
+    record { least = least; setup = None; time = None; greatest = 0; left = left }
 
--- where it stands once a setup record went out, or a time packet, or a piece, behind which these are on their way
+-- where it stands once a setup record went out, or a time packet, or a piece, behind which these
+-- are on their way
 abbrev pub behind_setup : StreamState → (counter : ℕ) → StreamState
 behind_setup state counter =
     record state { setup = Some counter; greatest = max state.greatest counter }
@@ -51,7 +55,8 @@ behind_piece state counter left =
 -- ---- time packets
 
 -- of the time packets behind one, and not behind a counter, this is the last
-pub record IsLastDue (rules : List Origin) (least time counter : ℕ) (moment : ℤ) (tick : ℕ) : Type 0 where
+pub record IsLastDue (rules : List Origin) (least time counter : ℕ) (moment : ℤ)
+    (tick : ℕ) : Type 0 where
   pub is_point : IsTimePoint least rules moment tick
   pub behind : time < tick
   pub due : tick ≤ counter
@@ -62,8 +67,10 @@ abbrev pub NoneIsDue : (rules : List Origin) → (least time counter : ℕ) → 
 NoneIsDue rules least time counter =
     (moment : ℤ) (tick : ℕ) → IsTimePoint least rules moment tick → time < tick → counter < tick
 
--- this time packet goes out next: the first of all; and then, ahead of a piece, the last of those that are due
-abbrev pub StreamTimeIsNext : List Origin → StreamState → (time : Option ℕ) → List StreamPiece → (moment : ℤ) (tick : ℕ) → Type 0
+-- this time packet goes out next: the first of all; and then, ahead of a piece, the last of those
+-- that are due
+abbrev pub StreamTimeIsNext : List Origin → StreamState → (time : Option ℕ) → List StreamPiece
+    → (moment : ℤ) (tick : ℕ) → Type 0
 StreamTimeIsNext rules state None left moment tick = IsFirstTime state.least rules moment tick
 StreamTimeIsNext rules state (Some time) [] moment tick = ⊥
 StreamTimeIsNext rules state (Some time) (piece ∷ left) moment tick =
@@ -71,13 +78,15 @@ StreamTimeIsNext rules state (Some time) (piece ∷ left) moment tick =
 
 -- ---- setup records
 
--- ahead of a time packet a setup record goes out, if none did or the last one lies 10 s or more back
+-- ahead of a time packet a setup record goes out, if none did or the last one lies 10 s or more
+-- back
 abbrev pub SetupIsDue : (setup : Option ℕ) → (tick : ℕ) → Type 0
 SetupIsDue None tick = Unit {0}
 SetupIsDue (Some setup) tick = setup + SETUP_TICKS ≤ tick
 
 -- it says the date of the first time packet, also where it goes out once more
-pub record StreamSetupGoes (facts : StreamFacts) (old : StreamState) (text : List ℕ) (counter : ℕ) (new : StreamState)
+pub record StreamSetupGoes (facts : StreamFacts) (old : StreamState) (text : List ℕ) (counter : ℕ)
+    (new : StreamState)
     : Type 0 where
   pub moment : ℤ
   pub ahead_of : StreamTimeIsNext facts.rules old old.time old.left moment counter
@@ -92,7 +101,8 @@ pub record StreamSetupGoes (facts : StreamFacts) (old : StreamState) (text : Lis
 
 -- ---- what goes out next
 
-pub record StreamTimeGoes (facts : StreamFacts) (old : StreamState) (is_external : Bool) (time : CivilTime) (counter : ℕ)
+pub record StreamTimeGoes (facts : StreamFacts) (old : StreamState) (is_external : Bool)
+    (time : CivilTime) (counter : ℕ)
     (new : StreamState) : Type 0 where
   pub moment : ℤ
   pub is_next : StreamTimeIsNext facts.rules old old.time old.left moment counter
@@ -102,7 +112,8 @@ pub record StreamTimeGoes (facts : StreamFacts) (old : StreamState) (is_external
   pub new_is : new ≡ behind_time old counter
 
 -- the first piece on its way, up to its first frame that doesn't lie before the next time packet
-pub record StreamPieceGoes (facts : StreamFacts) (old : StreamState) (channel : ℕ) (piece : FilePiece) (counter : ℕ)
+pub record StreamPieceGoes (facts : StreamFacts) (old : StreamState) (channel : ℕ)
+    (piece : FilePiece) (counter : ℕ)
     (new : StreamState) : Type 0 where
   pub first : StreamPiece
   pub others : List StreamPiece
@@ -115,11 +126,14 @@ pub record StreamPieceGoes (facts : StreamFacts) (old : StreamState) (channel : 
   pub follows : IsNextTick old.least facts.rules time next
   pub channel_is : channel ≡ first.channel
   pub piece_is : piece ≡ part_before next first.piece
-  pub new_is : new ≡ behind_piece old counter (pieces_on first (part_from next first.piece) ++ others)
+  pub new_is : new ≡ behind_piece old counter (pieces_on first (part_from next first.piece)
+      ++ others)
 
-abbrev pub StreamContentGoes : StreamFacts → (old : StreamState) → BlockContent → (counter : ℕ) → (new : StreamState)
+abbrev pub StreamContentGoes : StreamFacts → (old : StreamState) → BlockContent → (counter : ℕ)
+    → (new : StreamState)
     → Type 0
-StreamContentGoes facts old (SetupBlock text) counter new = StreamSetupGoes facts old text counter new
+StreamContentGoes facts old (SetupBlock text) counter new =
+    StreamSetupGoes facts old text counter new
 StreamContentGoes facts old (TimeBlock is_external time) counter new =
     StreamTimeGoes facts old is_external time counter new
 StreamContentGoes facts old (PieceBlock channel piece) counter new =
@@ -127,15 +141,18 @@ StreamContentGoes facts old (PieceBlock channel piece) counter new =
 StreamContentGoes facts old (NodeBlock entries) counter new = ⊥
 StreamContentGoes facts old (RootBlock nodes last) counter new = ⊥
 
--- this packet goes out next, with a valid header on its channel; that of a setup record isn't too long
-pub record StreamGoesNext (facts : StreamFacts) (old : StreamState) (b : FileBlock) (new : StreamState) : Type 0 where
+-- this packet goes out next, with a valid header on its channel; that of a setup record isn't too
+-- long
+pub record StreamGoesNext (facts : StreamFacts) (old : StreamState) (b : FileBlock)
+    (new : StreamState) : Type 0 where
   pub channel : b.channel ≡ block_channel facts.setup b.content
   pub header : IsHeader (block_header b)
   pub setup_fits : kind_of b.content ≡ SetupKind → block_len b ≤ MAX_SETUP_LEN
   pub goes : StreamContentGoes facts old b.content b.counter new
 
 -- these packets go out, one after the other
-abbrev pub StreamGoesOut : StreamFacts → (old : StreamState) → List FileBlock → (new : StreamState) → Type 0
+abbrev pub StreamGoesOut : StreamFacts → (old : StreamState) → List FileBlock → (new : StreamState)
+    → Type 0
 StreamGoesOut facts old [] new = new ≡ old
 StreamGoesOut facts old (b ∷ blocks) new =
     (next : StreamState) × StreamGoesNext facts old b next × StreamGoesOut facts next blocks new

@@ -19,8 +19,8 @@ said_below channels end = filter (is_said channels) (range_with_len 0 end)
 abbrev pub said_ids : List SetupChannel → List ℕ
 said_ids channels = said_below channels (2 ^ 16)
 
--- the setup record of a stream says these names, no index, and all channels that are named; its times stand on the
--- least channel ID from 1 on that isn't named
+-- the setup record of a stream says these names, no index, and all channels that are named; its
+-- times stand on the least channel ID from 1 on that isn't named
 pub record IsStreamSetup (names : FileNames) (setup : FileSetup) : Type 0 where
   pub said : SaysNames names setup
   pub unindexed : setup.is_indexed ≡ false

@@ -1,9 +1,11 @@
 -- What is written of a stream, and why it ended early.
-use Rattle.std.specs.Prelude.{ℕ, ◌≡◌, ◌⊎◌, false, true, List, [], ◌++◌, ℤ, Option, None, Some, Ok, Err, take}
+use Rattle.std.specs.Prelude.{ℕ, ◌≡◌, ◌⊎◌, false, true, List, [], ◌++◌, ℤ, Option, None, Some, Ok}
+use Rattle.std.specs.Prelude.{Err, take}
 use Rattle.std.specs.Io.KnownBytes.{Appends}
 use Rattle.ch11_clock.specs.declared.origin.Origin.{Origin as ClockOrigin}
 use Rattle.ch11_file.specs.declared.end.FileFault.{FileFault}
-use Rattle.ch11_file.specs.declared.end.FileFault.TheVariants.{Memory as LacksMemory, Output as OutputFails, Long}
+use Rattle.ch11_file.specs.declared.end.FileFault.TheVariants.{Memory as LacksMemory}
+use Rattle.ch11_file.specs.declared.end.FileFault.TheVariants.{Output as OutputFails, Long}
 use Rattle.ch11_file.specs.declared.setup.FileSetup.{FileSetup}
 use Rattle.ch11_file.specs.FileBlocks.{FileBlock, file_bytes}
 use Rattle.ch11_file.specs.FileEnds.{HasNoDate}
@@ -36,7 +38,8 @@ stream_end_of Long = Output
 -- ---- of whole packets of the recording
 
 -- the output grew by the stream of these packets, behind which this holds
-pub record HoldsStream (facts : StreamFacts) (packets : List PacketData) (before held : Option (List ℕ))
+pub record HoldsStream (facts : StreamFacts) (packets : List PacketData)
+    (before held : Option (List ℕ))
     (StreamStands : List FileBlock → StreamStage → Type 0) : Type 0 where
   pub blocks : List FileBlock
   pub stage : StreamStage
@@ -51,7 +54,8 @@ IsSecondEnd (Waiting ends) packet =
     (least_of (packet_counters packet) ≡ None) × (¬ AreNewEnds ends (stream_pieces packet))
 IsSecondEnd (Begun state) packet = ⊥
 
--- the packet names a channel that the setup record doesn't say, or is the second end of one that waits
+-- the packet names a channel that the setup record doesn't say, or is the second end of one that
+-- waits
 pub record CantGo (facts : StreamFacts) (stage : StreamStage) (packet : PacketData) : Type 0 where
   pub channel : ℕ
   pub kind : PieceKind
@@ -60,8 +64,8 @@ pub record CantGo (facts : StreamFacts) (stage : StreamStage) (packet : PacketDa
 
 -- ---- of a part of what goes out of a packet
 
--- what is so before: what the stream is made of, what the output held, the packets that went out ahead, and the
--- pieces on their way
+-- what is so before: what the stream is made of, what the output held, the packets that went out
+-- ahead, and the pieces on their way
 pub record StreamPast : Type 0 where
   pub facts : StreamFacts
   pub before : Option (List ℕ)
@@ -110,7 +114,8 @@ GoingFails past held Output = HoldsStreamFront past held
 GoingFails past held Memory = HoldsStreamFront past held
 
 -- pieces of the packet are on their way with this start, behind such a stage
-pub record Starts (facts : StreamFacts) (stage : StreamStage) (packet : PacketData) (start : StreamState) : Type 0 where
+pub record Starts (facts : StreamFacts) (stage : StreamStage) (packet : PacketData)
+    (start : StreamState) : Type 0 where
   pub channel : ℕ
   pub kind : PieceKind
   pub names : packet_names packet ≡ Some (channel, kind)
@@ -131,9 +136,11 @@ abbrev pub Anything : List FileBlock → StreamStage → Type 0
 Anything blocks stage = Unit {0}
 
 -- why the stream of these packets doesn't go on with a further one
-abbrev pub PacketFails : StreamFacts → List PacketData → PacketData → (before held : Option (List ℕ)) → StreamEnd → Type 0
+abbrev pub PacketFails : StreamFacts → List PacketData → PacketData
+    → (before held : Option (List ℕ)) → StreamEnd → Type 0
 PacketFails facts packets packet before held (Refused (Other at)) =
-    (at ≡ packet.at) × HoldsStream facts packets before held (λ blocks stage. CantGo facts stage packet)
+    (at ≡ packet.at) × HoldsStream facts packets before held
+    (λ blocks stage. CantGo facts stage packet)
 PacketFails facts packets packet before held (Refused Origin) =
     FailsInside facts packets packet before held (Refused Origin)
 PacketFails facts packets packet before held (Refused Year) =
@@ -141,28 +148,34 @@ PacketFails facts packets packet before held (Refused Year) =
 PacketFails facts packets packet before held (Refused Full) = ⊥
 PacketFails facts packets packet before held (Reading end) = ⊥
 PacketFails facts packets packet before held Output =
-    HoldsStream facts packets before held Anything ⊎ FailsInside facts packets packet before held Output
+    HoldsStream facts packets before held Anything
+    ⊎ FailsInside facts packets packet before held Output
 PacketFails facts packets packet before held Memory =
-    HoldsStream facts packets before held Anything ⊎ FailsInside facts packets packet before held Memory
+    HoldsStream facts packets before held Anything
+    ⊎ FailsInside facts packets packet before held Memory
 
 -- ---- of a recording
 
--- the recording is read to its end, and the output grew by the stream of its packets, of which these are the counts
+-- the recording is read to its end, and the output grew by the stream of its packets, of which
+-- these are the counts
 pub record WritesPackets (facts : StreamFacts) (recording : List ℕ) (before held : Option (List ℕ))
     (counts : StreamCounts) : Type 0 where
   pub packets : List PacketData
   pub reads : Reads recording packets None
-  pub holds : HoldsStream facts packets before held (λ blocks stage. counts ≡ stream_counts_of packets blocks)
+  pub holds : HoldsStream facts packets before held
+      (λ blocks stage. counts ≡ stream_counts_of packets blocks)
 
 -- the recording begins with these packets, of which the stream went out
-pub record HoldsSome (facts : StreamFacts) (recording : List ℕ) (before held : Option (List ℕ)) : Type 0 where
+pub record HoldsSome (facts : StreamFacts) (recording : List ℕ)
+    (before held : Option (List ℕ)) : Type 0 where
   pub packets : List PacketData
   pub rest : List ℕ
   pub begins : BeginsPackets 0 packets recording rest
   pub holds : HoldsStream facts packets before held Anything
 
 -- it goes on with a further packet, with which the stream doesn't go on
-pub record FailsAt (facts : StreamFacts) (recording : List ℕ) (before held : Option (List ℕ)) (end : StreamEnd)
+pub record FailsAt (facts : StreamFacts) (recording : List ℕ) (before held : Option (List ℕ))
+    (end : StreamEnd)
     : Type 0 where
   pub packets : List PacketData
   pub packet : PacketData
@@ -170,8 +183,10 @@ pub record FailsAt (facts : StreamFacts) (recording : List ℕ) (before held : O
   pub fails : PacketFails facts packets packet before held end
 
 -- why the stream of a recording ended early
-abbrev pub PacketsFail : StreamFacts → (recording : List ℕ) → (before held : Option (List ℕ)) → StreamEnd → Type 0
-PacketsFail facts recording before held (Refused refusal) = FailsAt facts recording before held (Refused refusal)
+abbrev pub PacketsFail : StreamFacts → (recording : List ℕ) → (before held : Option (List ℕ))
+    → StreamEnd → Type 0
+PacketsFail facts recording before held (Refused refusal) =
+    FailsAt facts recording before held (Refused refusal)
 PacketsFail facts recording before held (Reading end) =
     (packets : List PacketData) × Tells recording packets (Err end)
     × HoldsStream facts packets before held Anything
@@ -191,20 +206,24 @@ abbrev pub stream_facts : FileSetup → List ClockOrigin → StreamFacts
 stream_facts setup rules = record { setup = setup; rules = rules }
 
 -- with the setup record that these names make
-abbrev pub WritesStream : FileNames → List ClockOrigin → (recording : List ℕ) → (before held : Option (List ℕ))
+abbrev pub WritesStream : FileNames → List ClockOrigin → (recording : List ℕ)
+    → (before held : Option (List ℕ))
     → StreamCounts → Type 0
 WritesStream names rules recording before held counts =
     (setup : FileSetup) × IsStreamSetup names setup
     × WritesPackets (stream_facts setup rules) recording before held counts
 
-abbrev pub FailsWithSetup : FileNames → List ClockOrigin → (recording : List ℕ) → (before held : Option (List ℕ))
+abbrev pub FailsWithSetup : FileNames → List ClockOrigin → (recording : List ℕ)
+    → (before held : Option (List ℕ))
     → StreamEnd → Type 0
 FailsWithSetup names rules recording before held end =
     (setup : FileSetup) × IsStreamSetup names setup
     × PacketsFail (stream_facts setup rules) recording before held end
 
--- nothing goes out where no channel ID is free for the times; memory may be out before there is a setup record
-abbrev pub StreamFails : FileNames → List ClockOrigin → (recording : List ℕ) → (before held : Option (List ℕ))
+-- nothing goes out where no channel ID is free for the times; memory may be out before there is a
+-- setup record
+abbrev pub StreamFails : FileNames → List ClockOrigin → (recording : List ℕ)
+    → (before held : Option (List ℕ))
     → StreamEnd → Type 0
 StreamFails names rules recording before held (Refused (Other at)) =
     FailsWithSetup names rules recording before held (Refused (Other at))

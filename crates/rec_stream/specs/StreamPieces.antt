@@ -1,5 +1,6 @@
 -- The pieces of a recording's packets, as a stream takes them.
-use Rattle.std.specs.Prelude.{ℕ, ◌≢◌, Bool, true, false, max, if◌then◌else◌, List, [], map, Option, None, Some}
+use Rattle.std.specs.Prelude.{ℕ, ◌≢◌, Bool, true, false, max, if◌then◌else◌, List, [], map, Option}
+use Rattle.std.specs.Prelude.{None, Some}
 use Rattle.std.specs.List.{AllByRecursion}
 use Rattle.ch11_packet.specs.declared.class.What.{What}
 use Rattle.ch11_packet.specs.declared.class.What.TheVariants.{Frames, Program, End, Other}
@@ -32,7 +33,8 @@ is_end (End channel offered kept) = true
 is_end Other = false
 
 -- the pieces of a packet that names this, in order: none of a packet of another kind
-abbrev pub pieces_naming : Option (ℕ × PieceKind) → (is_end : Bool) → (place counter : ℕ) → List ℕ → List StreamPiece
+abbrev pub pieces_naming : Option (ℕ × PieceKind) → (is_end : Bool) → (place counter : ℕ) → List ℕ
+    → List StreamPiece
 pieces_naming None is_end place counter bytes = []
 pieces_naming (Some (channel, kind)) is_end place counter bytes =
     map (stream_piece channel is_end) (pieces_of kind place counter bytes)
@@ -42,8 +44,8 @@ stream_pieces packet =
     pieces_naming (packet_names packet) (is_end packet.what) packet.at packet.header.counter
     (data_in packet.header packet.body)
 
--- the counter of the packet of a piece that stands here: that of an end is the greatest of a header that went out,
--- where its own is less or it has none
+-- the counter of the packet of a piece that stands here: that of an end is the greatest of a header
+-- that went out, where its own is less or it has none
 abbrev pub head_counter : (greatest : ℕ) → (is_end : Bool) → Head → ℕ
 head_counter greatest is_end head =
     if is_end then max greatest (counter_at greatest head) else counter_at greatest head

@@ -1,7 +1,10 @@
--- The stream of a recording's packets: the packets of a whole file that go out of them, packet by packet.
-use Rattle.std.specs.Prelude.{ℕ, ◌+◌, ◌≡◌, Bool, true, false, max, List, [], ◌∷◌, ◌++◌, Option, None, Some, count_by}
+-- The stream of a recording's packets: the packets of a whole file that go out of them, packet by
+-- packet.
+use Rattle.std.specs.Prelude.{ℕ, ◌+◌, ◌≡◌, Bool, true, false, max, List, [], ◌∷◌, ◌++◌, Option}
+use Rattle.std.specs.Prelude.{None, Some, count_by}
 use Rattle.ch11_file.specs.FileBlocks.{BlockContent, FileBlock, blocks_of}
-use Rattle.ch11_file.specs.FileBlocks.BlockContent.{SetupBlock, TimeBlock, PieceBlock, NodeBlock, RootBlock}
+use Rattle.ch11_file.specs.FileBlocks.BlockContent.{SetupBlock, TimeBlock, PieceBlock, NodeBlock}
+use Rattle.ch11_file.specs.FileBlocks.BlockContent.{RootBlock}
 use Rattle.rec_reader.specs.Channels.{capped}
 use Rattle.rec_reader.specs.Packets.{PacketData}
 use Rattle.rec_pieces.specs.declared.entry.PieceKind.{PieceKind}
@@ -15,13 +18,14 @@ use Rattle.rec_stream.specs.StreamBlocks.{StreamFacts, StreamState, StreamGoesOu
 
 -- ---- packet by packet
 
--- how far a stream has come behind some packets: nothing went out, and these ends wait; or it has begun
+-- how far a stream has come behind some packets: nothing went out, and these ends wait; or it has
+-- begun
 pub data StreamStage : Type 0 where
   Waiting : List StreamPiece → StreamStage
   Begun : StreamState → StreamStage
 
--- the pieces of a packet on their way, where something goes out: with the first packet that has a counter the stream
--- begins, and the ends that waited stand behind its pieces
+-- the pieces of a packet on their way, where something goes out: with the first packet that has a
+-- counter the stream begins, and the ends that waited stand behind its pieces
 abbrev pub begun_by : StreamStage → (least : Option ℕ) → List StreamPiece → Option StreamState
 begun_by (Waiting ends) None pieces = None
 begun_by (Waiting ends) (Some least) pieces = Some (stream_begun least (pieces ++ ends))
@@ -43,13 +47,15 @@ abbrev pub GoOutWhole : StreamFacts → StreamState → List FileBlock → (new 
 GoOutWhole facts start blocks new =
     (end : StreamState) × StreamGoesOut facts start blocks end × IsAllOut end × (new ≡ Begun end)
 
-abbrev pub PiecesGo : StreamFacts → (old : StreamStage) → Option StreamState → List StreamPiece → List FileBlock
+abbrev pub PiecesGo : StreamFacts → (old : StreamStage) → Option StreamState → List StreamPiece
+    → List FileBlock
     → (new : StreamStage) → Type 0
 PiecesGo facts old None pieces blocks new = (blocks ≡ []) × Waits old pieces new
 PiecesGo facts old (Some start) pieces blocks new = GoOutWhole facts start blocks new
 
 -- a packet that names nothing is left out; of any other the setup record says the channel
-abbrev pub NamedGoes : StreamFacts → Option (ℕ × PieceKind) → (old : StreamStage) → PacketData → List FileBlock
+abbrev pub NamedGoes : StreamFacts → Option (ℕ × PieceKind) → (old : StreamStage) → PacketData
+    → List FileBlock
     → (new : StreamStage) → Type 0
 NamedGoes facts None old packet blocks new = (blocks ≡ []) × (new ≡ old)
 NamedGoes facts (Some (channel, kind)) old packet blocks new =
@@ -57,19 +63,23 @@ NamedGoes facts (Some (channel, kind)) old packet blocks new =
     × PiecesGo facts old (begun_by old (least_of (packet_counters packet)) (stream_pieces packet))
     (stream_pieces packet) blocks new
 
-abbrev pub PacketGoes : StreamFacts → (old : StreamStage) → PacketData → List FileBlock → (new : StreamStage)
+abbrev pub PacketGoes : StreamFacts → (old : StreamStage) → PacketData → List FileBlock
+    → (new : StreamStage)
     → Type 0
 PacketGoes facts old packet blocks new = NamedGoes facts (packet_names packet) old packet blocks new
 
-abbrev pub PacketsGo : StreamFacts → (old : StreamStage) → List PacketData → List FileBlock → (new : StreamStage)
+abbrev pub PacketsGo : StreamFacts → (old : StreamStage) → List PacketData → List FileBlock
+    → (new : StreamStage)
     → Type 0
 PacketsGo facts old [] blocks new = (blocks ≡ []) × (new ≡ old)
 PacketsGo facts old (packet ∷ packets) blocks new =
-    (mid : StreamStage) × (ahead : List FileBlock) × (behind : List FileBlock) × (blocks ≡ ahead ++ behind)
+    (mid : StreamStage) × (ahead : List FileBlock) × (behind : List FileBlock)
+    × (blocks ≡ ahead ++ behind)
     × PacketGoes facts old packet ahead mid × PacketsGo facts mid packets behind new
 
 -- these blocks are the stream of the packets
-abbrev pub AreStream : StreamFacts → List PacketData → List FileBlock → (stage : StreamStage) → Type 0
+abbrev pub AreStream : StreamFacts → List PacketData → List FileBlock → (stage : StreamStage)
+    → Type 0
 AreStream facts packets blocks stage = PacketsGo facts (Waiting []) packets blocks stage
 
 -- ---- counts
@@ -95,7 +105,8 @@ first_some (Some least) rest = Some least
 
 abbrev pub first_least : List PacketData → Option ℕ
 first_least [] = None
-first_least (packet ∷ packets) = first_some (least_of (packet_counters packet)) (first_least packets)
+first_least (packet ∷ packets) =
+    first_some (least_of (packet_counters packet)) (first_least packets)
 
 -- whether a packet is of another kind
 abbrev pub is_other_packet : Option (ℕ × PieceKind) → Bool
@@ -103,7 +114,8 @@ is_other_packet None = true
 is_other_packet (Some named) = false
 
 abbrev pub others_in : List PacketData → ℕ
-others_in packets = count_by (λ (packet : PacketData). is_other_packet (packet_names packet)) packets
+others_in packets =
+    count_by (λ (packet : PacketData). is_other_packet (packet_names packet)) packets
 
 -- the counts of a stream; at 2^64 - 1 they stay
 abbrev pub stream_counts_of : List PacketData → List FileBlock → StreamCounts

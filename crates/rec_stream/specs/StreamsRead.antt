@@ -6,7 +6,8 @@ use Rattle.ch11_merge.specs.Kept.{Held}
 use Rattle.ch11_merge.specs.Kept.Held.{HeldFrame, HeldRecord}
 use Rattle.ch11_file.specs.declared.setup.FileSetup.{FileSetup}
 use Rattle.ch11_file.specs.FileBlocks.{BlockContent}
-use Rattle.ch11_file.specs.FileBlocks.BlockContent.{SetupBlock, TimeBlock, PieceBlock, NodeBlock, RootBlock}
+use Rattle.ch11_file.specs.FileBlocks.BlockContent.{SetupBlock, TimeBlock, PieceBlock, NodeBlock}
+use Rattle.ch11_file.specs.FileBlocks.BlockContent.{RootBlock}
 use Rattle.ch11_file.specs.WholeFile.{setup_text}
 
 -- a setup record has this text, of some date

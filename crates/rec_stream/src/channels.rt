@@ -38,7 +38,8 @@ pub(crate) fn said_ids(alloc: Global, channels: &[SetupChannel<'_>]) -> Result<V
 
 /// The channel ID of time packets: the least from 1 on that isn't named.
 pub(crate) fn time_channel(channels: &[SetupChannel<'_>]) -> Option<u16>
-    ensures { MatchOption result (AreAllTaken (is_said channels.now)) (IsLeastFree (is_said channels.now)) }
+    ensures { MatchOption result (AreAllTaken (is_said channels.now))
+        (IsLeastFree (is_said channels.now)) }
 {
     'ids: for id in 1..=u16::MAX {
         if !is_said(channels, id) {

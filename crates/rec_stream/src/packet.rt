@@ -29,9 +29,11 @@ pub(crate) fn put_packet<'a, W: Write>(
 ) -> Result<Stage<'a>, StreamEnd>
     requires number { length made.setup.now.channels.now < 2 ^ 16 }
     ensures { (facts : StreamFacts) (before : Option (List ℕ)) (packets : List PacketData)
-        → IsMade facts made.entry → StreamStands facts before (W.contents out.old) sent.old stage.entry packets
+        → IsMade facts made.entry
+        → StreamStands facts before (W.contents out.old) sent.old stage.entry packets
         → MatchResult result
-        (λ new. StreamStands facts before (W.contents out.new) sent.new new (packets ++ packet ∷ []))
+        (λ new. StreamStands facts before (W.contents out.new) sent.new new (packets ++ packet
+        ∷ []))
         (PacketFails facts packets packet before (W.contents out.new)) }
 {
     let Some(named) = named_in(&packet.packet()) else {

@@ -63,7 +63,8 @@ fn put_frames<W: Write>(
 ) -> Result<(), StreamEnd>
     requires number { length setup.now.channels.now < 2 ^ 16 }
     ensures gone { (past : StreamPast) (others : List StreamPiece) → past.facts.setup ≡ setup.now
-        → HasCome past (W.contents out.old) sent.old course.old (origin_pieces origin frames ++ others)
+        → HasCome past (W.contents out.old) sent.old course.old (origin_pieces origin frames
+        ++ others)
         → MatchResult result (λ _. HasCome past (W.contents out.new) sent.new course.new others)
         (GoingFails past (W.contents out.new)) }
     ensures other { OnOk result (sent.new.counts.other ≡ sent.old.counts.other) }
@@ -88,7 +89,8 @@ fn put_next<W: Write>(
     requires some { frames.old ≢ [] }
     requires number { length setup.now.channels.now < 2 ^ 16 }
     ensures gone { (past : StreamPast) (others : List StreamPiece) → past.facts.setup ≡ setup.now
-        → HasCome past (W.contents out.old) sent.old course.old (origin_pieces origin frames.old ++ others)
+        → HasCome past (W.contents out.old) sent.old course.old (origin_pieces origin frames.old
+        ++ others)
         → MatchResult result (λ _. HasCome past (W.contents out.new) sent.new course.new
         (origin_pieces origin frames.new ++ others))
         (GoingFails past (W.contents out.new)) }

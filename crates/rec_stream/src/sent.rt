@@ -44,7 +44,8 @@ impl Sent {
 
     /// Nothing went out yet.
     pub(crate) fn new(alloc: Global) -> Result<Sent, AllocError>
-        ensures fresh { (held : Option (List ℕ)) → IfOk result (λ sent. StreamHasSent held held sent []) }
+        ensures fresh { (held : Option (List ℕ))
+            → IfOk result (λ sent. StreamHasSent held held sent []) }
         ensures other { IfOk result (λ sent. sent.counts.other ≡ 0) }
     {
         Ok(Sent {
@@ -71,7 +72,8 @@ impl Sent {
 
     /// Notes a packet of another kind, which is left out.
     pub(crate) fn note_other(&mut self)
-        ensures { self.new ≡ stream_sent self.old.numbers self.old.greatest (other_more self.old.counts) }
+        ensures { self.new ≡ stream_sent self.old.numbers self.old.greatest
+            (other_more self.old.counts) }
     {
         self.counts.other = self.counts.other.saturating_add(1);
     }
@@ -113,9 +115,11 @@ impl Sent {
         requires fits { written_len WithSum (length body.now) < 2 ^ 32 }
         requires frames { head.kind ≡ Frames
             → written_len WithSum (length body.now) ≤ MAX_ETHERNET_PACKET_LEN }
-        ensures whole { OnOk result (StreamWritesWhole self.old head.kind head.channel head.counter body.now
+        ensures whole { OnOk result
+            (StreamWritesWhole self.old head.kind head.channel head.counter body.now
             (W.contents out.old) (W.contents out.new) self.new) }
-        ensures part { IfErr result (λ _. StreamWritesPart self.old head.kind head.channel head.counter body.now
+        ensures part { IfErr result
+            (λ _. StreamWritesPart self.old head.kind head.channel head.counter body.now
             (W.contents out.old) (W.contents out.new)) }
     {
         let sequence = self.numbers.take(head.channel);

@@ -50,7 +50,8 @@ pub(crate) fn put_named<'a, W: Write>(
         → origin_pieces named.origin (pieces_held hand) ≡ stream_pieces packet
         → StreamStands facts before (W.contents out.old) sent.old stage.entry packets
         → MatchResult result
-        (λ new. StreamStands facts before (W.contents out.new) sent.new new (packets ++ packet ∷ []))
+        (λ new. StreamStands facts before (W.contents out.new) sent.new new (packets ++ packet
+        ∷ []))
         (PacketFails facts packets packet before (W.contents out.new)) }
 {
     match stage {
@@ -135,7 +136,8 @@ fn begin_with<'a, W: Write>(
     requires number { length made.setup.now.channels.now < 2 ^ 16 }
     ensures begun { (past : StreamPast) → past.facts.setup ≡ made.entry.setup.now
         → past.facts.rules ≡ made.entry.clock.now
-        → IsFreshStream past least (origin_pieces origin (pieces_held hand) ++ map waiting_piece ends.now.items)
+        → IsFreshStream past least (origin_pieces origin (pieces_held hand)
+        ++ map waiting_piece ends.now.items)
         (W.contents out.old) sent.old
         → MatchResult result
         (λ course. HasCome past (W.contents out.new) sent.new course [])

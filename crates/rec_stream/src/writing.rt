@@ -61,9 +61,11 @@ fn write_packets<R: Read, W: Write>(
 ) -> Result<StreamCounts, StreamEnd>
     requires number { length made.setup.now.channels.now < 2 ^ 16 }
     ensures { (recording : List ℕ) → HasRead recording [] reader.old → MatchResult result
-        (WritesPackets (stream_facts made.entry.setup.now made.entry.clock.now) recording (W.contents out.old)
+        (WritesPackets (stream_facts made.entry.setup.now made.entry.clock.now) recording
+        (W.contents out.old)
         (W.contents out.new))
-        (PacketsFail (stream_facts made.entry.setup.now made.entry.clock.now) recording (W.contents out.old)
+        (PacketsFail (stream_facts made.entry.setup.now made.entry.clock.now) recording
+        (W.contents out.old)
         (W.contents out.new)) }
 {
     let mut sent = Sent::new(alloc)?;
@@ -86,7 +88,8 @@ fn next_packet<R: Read, W: Write>(
     ensures kept { Keeps (W.contents out.old) (W.contents out.new) }
     ensures gives { IfOk result (λ taken. (recording : List ℕ) (packets : List PacketData)
         → HasRead recording packets reader.old
-        → HasRead recording (packets ++ given_by (Ok taken)) reader.new × Tells recording packets (Ok taken)) }
+        → HasRead recording (packets ++ given_by (Ok taken)) reader.new
+        × Tells recording packets (Ok taken)) }
     ensures fails { IfErr result (λ end. (recording : List ℕ) (packets : List PacketData)
         → HasRead recording packets reader.old → NextFails recording packets end) }
 {

@@ -29,7 +29,8 @@ use Rattle.rec_core.specs.World.{WorldRun, opening_channel, opening_world, piece
 use Rattle.rec_core.specs.World.EventData.{OfTake, OfTime, OfInstall, OfSend, OfWrite, OfClose}
 use Rattle.rec_core.specs.Worlds.{CoreState, StandsForWorld}
 use Rattle.rec_core.specs.Written.{RunsFromOpening, recorded_channel, recorded_channels, IsCutShort}
-use Rattle.rec_core.proofs.ListPlaces.{set_cases, set_unseen, map_there, there_map, All_there, All_from_places, Any_there}
+use Rattle.ch11_packet.proofs.ChangedLists.{set_cases, all_there, all_from_there}
+use Rattle.rec_core.proofs.ListPlaces.{set_unseen, map_there, there_map, Any_there}
 use Rattle.rec_core.proofs.ChannelsInOrder.{LaterLeave}
 use Rattle.rec_core.proofs.ChannelServing.{OfTheirChannel, BeginAll}
 use Rattle.rec_core.proofs.Written.{Named, SoundWorld, ids, reached, held_after}
@@ -84,9 +85,9 @@ FitWorld w = All IsFit w.channels
 
 -- one channel more in range
 set_fit : (channels : List ChannelState) (at : ℕ) (d : ChannelState) → All IsFit channels → IsFit d → All IsFit (slice_set channels at d)
-set_fit channels at d all fit = All_from_places IsFit (slice_set channels at d) (λ k x is. elim (set_cases channels at d k x is) as (λ _. IsFit x) [
+set_fit channels at d all fit = all_from_there IsFit (slice_set channels at d) (λ k x is. elim (set_cases channels at d k x is) as (λ _. IsFit x) [
   | inl same ↦ subst IsFit (sym same.1) fit
-  | inr elsewhere ↦ All_there IsFit channels k x all elsewhere.1
+  | inr elsewhere ↦ all_there IsFit channels k x all elsewhere.1
 ])
 
 -- so a step keeps a world in range, and events do
@@ -95,7 +96,7 @@ step_fit : (ring : ℕ) (old : WorldState) (event : EventData) (answer : Result 
 step_fit ring old event (Ok reply) new step is fit =
     subst FitWorld (sym step.6)
     (set_fit old.channels step.0 step.2 fit (fit_after ring step.1 event reply step.2 step.3 step.5 is
-    (All_there IsFit old.channels step.0 step.1 fit step.4.there)))
+    (all_there IsFit old.channels step.0 step.1 fit step.4.there)))
 step_fit ring old event (Err NoChannel) new step is fit = subst FitWorld (sym step.1) fit
 step_fit ring old event (Err fault) new step is fit = subst FitWorld (sym step.4) fit
 
@@ -136,8 +137,8 @@ pub world_recordable : (ring : ℕ) (specs : List SpecData) (new : WorldState) �
 world_recordable ring specs new run are events orders =
     let fit = run_fit ring run.0 run.1 (opening_world specs) new run.4 events (opening_fit specs are) in
     All-map IsRecordable recorded_channel new.channels
-    (All_from_places (λ (c : ChannelState). IsRecordable (recorded_channel c)) new.channels
-    (λ k c is. channel_recordable c (All_there IsFit new.channels k c fit is) (All_there IsInOrder new.channels k c orders is)))
+    (all_from_there (λ (c : ChannelState). IsRecordable (recorded_channel c)) new.channels
+    (λ k c is. channel_recordable c (all_there IsFit new.channels k c fit is) (all_there IsInOrder new.channels k c orders is)))
 
 -- ---- one more piece
 
@@ -193,7 +194,7 @@ named_recorded w s =
 begin_recorded : (w : WorldState) → SoundWorld w → All (BeginsChannel w.out) (recorded_channels w)
 begin_recorded w s =
     All-map (BeginsChannel w.out) recorded_channel w.channels
-    (All_from_places (λ (c : ChannelState). BeginsChannel w.out (recorded_channel c)) w.channels
+    (all_from_there (λ (c : ChannelState). BeginsChannel w.out (recorded_channel c)) w.channels
     (λ k c is. let sound = s.each k c is in (channel_pieces c.settings c.offered, (c.offered, sound.order.met, refl, refl, refl), sound.begins)))
 
 -- what a world has written of its channels, and then perhaps a part of a piece, is a recording that

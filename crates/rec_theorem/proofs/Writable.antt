@@ -17,7 +17,8 @@ use Rattle.rec_lane.specs.Pieces.{LaneSettings, has_group_version, groups, progr
 use Rattle.rec_lane.specs.Pieces.{group_packets, group_pieces, last_counter_from, end_piece, channel_pieces}
 use Rattle.rec_lane.proofs.Contents.{parts_whole, group_whole}
 use Rattle.rec_lane.proofs.LongestParts.{Packs, group_packs}
-use Rattle.rec_core.proofs.ListPlaces.{map_there, All_there}
+use Rattle.ch11_packet.proofs.ChangedLists.{all_there}
+use Rattle.rec_core.proofs.ListPlaces.{map_there}
 use Rattle.rec_writer.specs.Recording.{RecordedChannel}
 use Rattle.rec_run.specs.Jobs.{AreLaneSettings}
 use Rattle.rec_theorem.specs.Recordable.{IsRecordable}
@@ -49,8 +50,8 @@ one_known history count offered f h met framed below =
       framed = framed;
       below = below;
       version_below = slice_get_within history f.version v.0 v.1;
-      valid = subst Valid v.2 (All_there (λ (w : Version). Valid w.program) history f.version v.0 h.valid v.1);
-      in_range = subst AreInRange v.2 (All_there (λ (w : Version). AreInRange w.program) history f.version v.0 h.in_range v.1);
+      valid = subst Valid v.2 (all_there (λ (w : Version). Valid w.program) history f.version v.0 h.valid v.1);
+      in_range = subst AreInRange v.2 (all_there (λ (w : Version). AreInRange w.program) history f.version v.0 h.in_range v.1);
       met = met;
     }
 

@@ -1,4 +1,5 @@
--- What there is for the laws to speak of: channels side by side, and what a core is set to for them.
+-- What there is for the laws to speak of: channels side by side, and what a core is set to for
+-- them.
 use Rattle.std.specs.Prelude.{ℕ, List, [], ◌∷◌, length, map}
 use Rattle.bpf_insn.specs.declared.insn.Insn.{Insn}
 use Rattle.rec_channel.specs.History.{Version}
@@ -14,7 +15,8 @@ abbrev pub first_program : List Version → List Insn
 first_program [] = []
 first_program (v ∷ vs) = v.program
 
--- what a core's channel is set to that may have just these frames, and begins with the first version
+-- what a core's channel is set to that may have just these frames, and begins with the first
+-- version
 abbrev pub spec_of : RecordedChannel → SpecData
 spec_of c =
     record { settings = c.settings; program = first_program c.history; max = length c.frames }

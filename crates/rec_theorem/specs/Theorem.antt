@@ -1,5 +1,6 @@
 -- What a reader finds of each job of a run, and the premises.
-use Rattle.std.specs.Prelude.{ℕ, ◌≡◌, ◌⊎◌, Bool, List, ◌∷◌, ◌++◌, length, take, Option, None, Some, IfSome, [], Contains}
+use Rattle.std.specs.Prelude.{ℕ, ◌≡◌, ◌⊎◌, Bool, List, ◌∷◌, ◌++◌, length, take, Option, None, Some}
+use Rattle.std.specs.Prelude.{IfSome, [], Contains}
 use Rattle.std.specs.List.{AllZip}
 use Rattle.std.specs.Arc.{arc_value}
 use Rattle.eth_frame.specs.Frame.{FrameData}
@@ -71,8 +72,8 @@ FindsNoOthers jobs packets =
 
 module _ {S : Type 0} (left : S → Option Left) where
   -- as many frames were taken of the job's source as the report says: the first of those that the
-  -- source said, if it said any. Of these the program in force at each frame accepted as many as the
-  -- report says; it is a program of the history that the report gives
+  -- source said, if it said any. Of these the program in force at each frame accepted as many as
+  -- the report says; it is a program of the history that the report gives
   pub record HasTaken (job : Job S) (report : ChannelReport S) : Type 0 where
     pub taken : List FrameData
     pub counted : length taken ≡ report.offered
@@ -82,9 +83,9 @@ module _ {S : Type 0} (left : S → Option Left) where
     pub kept_is : length kept ≡ report.kept
 
   -- the frames that the packets have of the job's channel are exactly the accepted ones, in order
-  -- and once each; where the source ended by itself, the frames that were taken are all that it said;
-  -- and the programs that were in force are the job's and then the changes for its channel, up to the
-  -- greatest number of versions
+  -- and once each; where the source ended by itself, the frames that were taken are all that it
+  -- said; and the programs that were in force are the job's and then the changes for its channel,
+  -- up to the greatest number of versions
   pub record FindsJob
       (packets : List PacketData) (changes : List Given) (job : Job S) (report : ChannelReport S)
       : Type 0 where
@@ -108,9 +109,9 @@ module _ {S : Type 0} (left : S → Option Left) where
     pub no_others : FindsNoOthers jobs packets
     pub approved : IsApproved packets
 
-  -- what the reader's calls answer of the recording: `read_recording` answers no fault of the bytes; at `Ok`
-  -- the recording that it gives has the accepted frames of each job, which `frames_of` gives; and
-  -- `audit` of it answers no fault, unless memory ran out
+  -- what the reader's calls answer of the recording: `read_recording` answers no fault of the
+  -- bytes; at `Ok` the recording that it gives has the accepted frames of each job, which
+  -- `frames_of` gives; and `audit` of it answers no fault, unless memory ran out
   pub record IsAnswered
       (jobs : List (Job S)) (reports : List (ChannelReport S)) (changes : List Given)
       (bytes : List ℕ) : Type 0 where
@@ -130,8 +131,8 @@ module _ {S : Type 0} (left : S → Option Left) where
     pub begins : BeginsList (channel_frames job.spec.channel packets)
         (read_frames (spec_data job.spec) frames.kept)
 
-  -- the bytes are read as whole packets, and then end or are truncated, in no other way; and what is
-  -- found of each job are the first of its accepted frames, and of other channels none
+  -- the bytes are read as whole packets, and then end or are truncated, in no other way; and what
+  -- is found of each job are the first of its accepted frames, and of other channels none
   pub record FindsCut
       (jobs : List (Job S)) (reports : List (ChannelReport S)) (bytes : List ℕ) : Type 0 where
     pub packets : List PacketData

@@ -11,3 +11,4 @@ pub mod PassingChannels
 pub mod FaultsFound
 pub mod FoundChannels
 pub mod OneFile
+pub mod NoRefusal

@@ -22,12 +22,12 @@ use Rattle.ch11_index.specs.FileIndex.{IndexState, after_node, after_packet, aft
 use Rattle.ch11_merge.specs.Merging.{FilePiece, ChannelLeft, IsNextAt, NothingLeft, PieceIsNext, TakesPart, TimeIsNext, channel_with, head_of, is_due}
 use Rattle.ch11_merge.specs.Kept.{AreNamedApart}
 use Rattle.ch11_merge.proofs.Merged.{apart_with, one_next}
-use Rattle.ch11_merge.proofs.Places.{all_there}
+use Rattle.ch11_packet.proofs.ChangedLists.{all_there}
 use Rattle.ch11_file.specs.FileBlocks.{BlockContent, FileBlock, block_len, blocks_on, named_of}
 use Rattle.ch11_file.specs.FileBlocks.BlockContent.{SetupBlock, TimeBlock, PieceBlock, NodeBlock, RootBlock}
 use Rattle.ch11_file.specs.FileTimes.{IsFirstTime, IsNextTick}
-use Rattle.ch11_file.specs.WholeFile.{FileFacts, FileStage, FileState, MergeState, AreNumbered, BlockGoesNext, GoOut, IndexIsDue, IsFileOver, IsMerged}
-use Rattle.ch11_file.specs.WholeFile.{IsWholeFile, NamedGoesNext, PieceGoesNext, TimeIsDue, block_channel, counter_of}
+use Rattle.ch11_file.specs.WholeFile.{FileFacts, FileStage, FileState, MergeState, AreNumbered, BlockGoesNext, GoesNext, GoOut, IndexIsDue}
+use Rattle.ch11_file.specs.WholeFile.{IsFileOver, IsMerged, IsWholeFile, NamedGoesNext, PieceGoesNext, TimeIsDue, block_channel, counter_of}
 use Rattle.ch11_file.specs.WholeFile.{file_start, file_state, merge_state, setup_text}
 use Rattle.ch11_file.specs.WholeFile.FileStage.{BeforeSetup, Merging}
 use Rattle.ch11_file.proofs.FileMerges.{not_merging_setup}
@@ -37,7 +37,8 @@ use Rattle.ch11_file.proofs.FileMerges.{not_merging_setup}
 last_at : (moment time : ℤ) → nanos_of moment ≤ℤ time → time <ℤ (nanos_of moment +ℤ pos 100) → IsLastAt time moment
 last_at moment time reached first = record { reached = reached; last = omega (arith, signed_arith) }
 
-one_moment : (least : ℕ) (rules : List Origin) (a b : ℤ) (tick : ℕ) → IsClock rules → IsTimePoint least rules a tick → IsTimePoint least rules b tick → a ≡ b
+pub one_moment : (least : ℕ) (rules : List Origin) (a b : ℤ) (tick : ℕ) → IsClock rules → IsTimePoint least rules a tick → IsTimePoint least rules b tick
+    → a ≡ b
 one_moment least rules a b tick clock p q =
     let x = point_agrees least rules a tick clock p in
     let y = point_agrees least rules b tick clock q in
@@ -126,7 +127,7 @@ one_part : (tick : ℕ) (old : List FilePiece) (a b : FilePiece) (r s : List Fil
 one_part tick [] a b r s p q = absurd p
 one_part tick (o ∷ os) a b r s p q = (q.0 ∙ sym p.0, q.1 ∙ sym p.1)
 
-one_piece : (tick : ℕ) (left : List ChannelLeft) (channel other : ℕ) (piece its : FilePiece) (new next : List ChannelLeft) → AreNamedApart left
+pub one_piece : (tick : ℕ) (left : List ChannelLeft) (channel other : ℕ) (piece its : FilePiece) (new next : List ChannelLeft) → AreNamedApart left
     → PieceIsNext tick left channel piece new → PieceIsNext tick left other its next → (other ≡ channel) × (its ≡ piece) × (next ≡ new)
 one_piece tick left channel other piece its new next apart p q =
     let same = one_next left p.at q.at p.of q.of apart p.is_next q.is_next in
@@ -142,20 +143,20 @@ one_piece tick left channel other piece its new next apart p q =
           ∙ sym p.others,
     )
 
-no_piece : (left : List ChannelLeft) (at : ℕ) (c : ChannelLeft) → NothingLeft left → IsNextAt left at c → ⊥
+pub no_piece : (left : List ChannelLeft) (at : ℕ) (c : ChannelLeft) → NothingLeft left → IsNextAt left at c → ⊥
 no_piece left at c none is = is.some (all_there (λ (d : ChannelLeft). d.pieces ≡ []) left at c none is.there)
 
-time_or_piece : (tick : ℕ) (left : List ChannelLeft) (channel : ℕ) (piece : FilePiece) (new : List ChannelLeft) → AreNamedApart left
+pub time_or_piece : (tick : ℕ) (left : List ChannelLeft) (channel : ℕ) (piece : FilePiece) (new : List ChannelLeft) → AreNamedApart left
     → TimeIsNext tick left → PieceIsNext tick left channel piece new → ⊥
 time_or_piece tick left channel piece new apart t p =
     let same = one_next left t.at p.at t.of p.of apart t.is_next p.is_next in
     both_ways (is_due tick (head_of t.of.pieces)) (subst (λ (c : ChannelLeft). is_due tick (head_of c.pieces) ≡ false) same.1 p.early) t.due
 
-time_next : (greatest : ℕ) (stage : FileStage) (tick : ℕ) (left : List ChannelLeft) → stage ≡ Merging → TimeIsDue greatest stage tick left
+pub time_next : (greatest : ℕ) (stage : FileStage) (tick : ℕ) (left : List ChannelLeft) → stage ≡ Merging → TimeIsDue greatest stage tick left
     → TimeIsNext tick left
 time_next greatest stage tick left is due = (subst (λ (s : FileStage). TimeIsDue greatest s tick left) is due).0
 
-not_setup : (greatest : ℕ) (stage : FileStage) (tick : ℕ) (left : List ChannelLeft) → stage ≡ BeforeSetup → TimeIsDue greatest stage tick left → ⊥
+pub not_setup : (greatest : ℕ) (stage : FileStage) (tick : ℕ) (left : List ChannelLeft) → stage ≡ BeforeSetup → TimeIsDue greatest stage tick left → ⊥
 not_setup greatest stage tick left is due = subst (λ (s : FileStage). TimeIsDue greatest s tick left) is due
 
 -- ---- what goes out next
@@ -281,7 +282,7 @@ same_index facts old (PieceBlock k p) b new next n m = m.index_is ∙ sym n.inde
 same_index facts old (NodeBlock es) b new next n m = ap (λ (s : FileState). s.index) m.new_is ∙ sym (ap (λ (s : FileState). s.index) n.new_is)
 same_index facts old (RootBlock ns l) b new next n m = ap (λ (s : FileState). s.index) m.new_is ∙ sym (ap (λ (s : FileState). s.index) n.new_is)
 
-one_behind : (facts : FileFacts) (old : FileState) (x : BlockContent) (b : FileBlock) (new : FileState) → BlockGoesNext facts old x b new
+pub one_behind : (facts : FileFacts) (old : FileState) (x : BlockContent) (b : FileBlock) (new : FileState) → BlockGoesNext facts old x b new
     → IsOneIndex old.index → IsOneIndex new.index
 one_behind facts old (SetupBlock t) b new n one = one_after_packet old.index new.index b one n.none_due n.index_is
 one_behind facts old (TimeBlock e time) b new n one = one_after_packet old.index new.index b one n.none_due n.index_is
@@ -291,7 +292,7 @@ one_behind facts old (NodeBlock es) b new n one =
 one_behind facts old (RootBlock ns l) b new n one =
     subst (λ (s : FileState). IsOneIndex s.index) (sym n.new_is) (one_after_root old.index (block_len b) one)
 
-apart_behind : (facts : FileFacts) (old : FileState) (x : BlockContent) (b : FileBlock) (new : FileState) → BlockGoesNext facts old x b new
+pub apart_behind : (facts : FileFacts) (old : FileState) (x : BlockContent) (b : FileBlock) (new : FileState) → BlockGoesNext facts old x b new
     → AreNamedApart old.merge.left → AreNamedApart new.merge.left
 apart_behind facts old (SetupBlock t) b new n apart = subst (λ (s : MergeState). AreNamedApart s.left) (sym n.goes.new_is) apart
 apart_behind facts old (TimeBlock e time) b new n apart = subst (λ (s : MergeState). AreNamedApart s.left) (sym n.goes.new_is) apart
@@ -316,7 +317,7 @@ same_state old new i m = ap (λ x. file_state x new.merge) i ∙ ap (file_state 
 
 -- ---- where nothing goes out
 
-over_stops : (facts : FileFacts) (old : FileState) (x : BlockContent) (b : FileBlock) (new : FileState) → IsOneIndex old.index → IsFileOver old
+pub over_stops : (facts : FileFacts) (old : FileState) (x : BlockContent) (b : FileBlock) (new : FileState) → IsOneIndex old.index → IsFileOver old
     → BlockGoesNext facts old x b new → ⊥
 over_stops facts old (SetupBlock t) b new one over n = not_merged facts old (SetupBlock t) b new n over.merged
 over_stops facts old (TimeBlock e time) b new one over n = not_merged facts old (TimeBlock e time) b new n over.merged
@@ -325,6 +326,18 @@ over_stops facts old (NodeBlock es) b new one over n = none-some Node (sym over.
 over_stops facts old (RootBlock ns l) b new one over n = none-some Root (sym over.indexed ∙ index_at_end Root old.index old.merge one n.is_due)
 
 -- ---- all packets
+
+pub one_step : (facts : FileFacts) → IsClock facts.rules → (old new next : FileState) (ahead : List FileBlock) (b c : FileBlock) → IsOneIndex old.index
+    → AreNamedApart old.merge.left → GoesNext facts old b new → GoesNext facts old c next → b.sequence ≡ blocks_on b.channel ahead % 256
+    → c.sequence ≡ blocks_on c.channel ahead % 256 → (c ≡ b) × (next ≡ new)
+one_step facts clock old new next ahead b c one apart go its na nb =
+    let s = same_next facts clock old one apart b c new next b.content c.content go.goes its.goes in
+    let channel : c.channel ≡ b.channel = its.channel ∙ ap (block_channel facts.setup) s.content ∙ sym go.channel in
+    let sequence : c.sequence ≡ b.sequence = nb ∙ ap (λ k. blocks_on k ahead % 256) channel ∙ sym na in
+    let block : c ≡ b = same_block b c channel sequence s.counter s.content in
+    let index = same_index facts old b.content b new next go.goes
+    (subst (λ (d : FileBlock). BlockGoesNext facts old d.content d next) block its.goes) in
+    (block, same_state new next index s.merge)
 
 one_out : (facts : FileFacts) → IsClock facts.rules → (old end fin : FileState) (ahead xs ys : List FileBlock) → IsOneIndex old.index
     → AreNamedApart old.merge.left → GoOut facts old xs end → GoOut facts old ys fin → AreNumbered ahead xs → AreNumbered ahead ys
@@ -335,17 +348,11 @@ one_out facts clock old end fin ahead [] (c ∷ cs) one apart go its na nb over 
 one_out facts clock old end fin ahead (b ∷ xs) [] one apart go its na nb over last =
     absurd (over_stops facts old b.content b go.0 one (subst IsFileOver its last) go.1.goes)
 one_out facts clock old end fin ahead (b ∷ xs) (c ∷ cs) one apart go its na nb over last =
-    let s = same_next facts clock old one apart b c go.0 its.0 b.content c.content go.1.goes its.1.goes in
-    let channel : c.channel ≡ b.channel = its.1.channel ∙ ap (block_channel facts.setup) s.content ∙ sym go.1.channel in
-    let sequence : c.sequence ≡ b.sequence = nb.0 ∙ ap (λ k. blocks_on k ahead % 256) channel ∙ sym na.0 in
-    let block : c ≡ b = same_block b c channel sequence s.counter s.content in
-    let index = same_index facts old b.content b go.0 its.0 go.1.goes
-    (subst (λ (d : FileBlock). BlockGoesNext facts old d.content d its.0) block its.1.goes) in
-    let state : its.0 ≡ go.0 = same_state go.0 its.0 index s.merge in
+    let same = one_step facts clock old go.0 its.0 ahead b c one apart go.1 its.1 na.0 nb.0 in
     let rest = one_out facts clock go.0 end fin (ahead ++ b ∷ []) xs cs (one_behind facts old b.content b go.0 go.1.goes one)
-    (apart_behind facts old b.content b go.0 go.1.goes apart) go.2 (subst (λ (x : FileState). GoOut facts x cs fin) state its.2) na.1
-    (subst (λ (d : FileBlock). AreNumbered (ahead ++ d ∷ []) cs) block nb.1) over last in
-    ap (λ d. d ∷ cs) block ∙ ap (λ l. b ∷ l) rest
+    (apart_behind facts old b.content b go.0 go.1.goes apart) go.2 (subst (λ (x : FileState). GoOut facts x cs fin) same.1 its.2) na.1
+    (subst (λ (d : FileBlock). AreNumbered (ahead ++ d ∷ []) cs) same.0 nb.1) over last in
+    ap (λ d. d ∷ cs) same.0 ∙ ap (λ l. b ∷ l) rest
 
 pub one_first : (least : ℕ) (rules : List Origin) (a b : ℤ) (tick other : ℕ) → IsFirstTime least rules a tick → IsFirstTime least rules b other → other ≡ tick
 one_first least rules a b tick other p q = let x = p.first b other q.is in let y = q.first a tick p.is in omega (arith, x, y)

@@ -7,7 +7,7 @@ use Rattle.ch11_merge.specs.declared.source.Head.{Head}
 use Rattle.ch11_merge.specs.declared.source.Head.TheVariants.{At, Uncounted, End}
 use Rattle.ch11_merge.specs.Merging.{FilePiece, ChannelLeft, channel_with, head_of, head_of_piece, is_due, part_before, part_from}
 use Rattle.ch11_merge.specs.Merging.{TakesPart, PieceIsNext}
-use Rattle.ch11_merge.proofs.Places.{set_cases}
+use Rattle.ch11_packet.proofs.ChangedLists.{set_cases}
 use Rattle.ch11_file.specs.declared.setup.FileSetup.{FileSetup}
 use Rattle.ch11_file.specs.FileBlocks.{BlockContent, FileBlock, block_header}
 use Rattle.ch11_file.specs.FileBlocks.BlockContent.{SetupBlock, TimeBlock, PieceBlock, NodeBlock, RootBlock}

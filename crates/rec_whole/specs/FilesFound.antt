@@ -10,8 +10,8 @@ use Rattle.rec_reader.specs.Audits.{Audits}
 use Rattle.rec_whole.specs.WholeFrames.{held_in_packets}
 use Rattle.rec_whole.specs.ToldOfChannels.{told_of}
 
--- the packets that are found have of each channel what a recording's have, in order: frames and records
--- beside each other; and so the frames, the programs and the ends of each channel from 1 on
+-- the packets that are found have of each channel what a recording's have, in order: frames and
+-- records beside each other; and so the frames, the programs and the ends of each channel from 1 on
 pub record HaveSameChannels (packets found : List PacketData) : Type 0 where
   pub held : (channel : ℕ) → held_in_packets channel found ≡ held_in_packets channel packets
   pub frames : (channel : ℕ) → channel ≢ 0
@@ -20,7 +20,8 @@ pub record HaveSameChannels (packets found : List PacketData) : Type 0 where
       → programs_of channel found ≡ programs_of channel packets
   pub ends : (channel : ℕ) → channel ≢ 0 → ends_of channel found ≡ ends_of channel packets
 
--- they tell of each channel from 1 on what these tell, in order: frames, programs and ends beside each other
+-- they tell of each channel from 1 on what these tell, in order: frames, programs and ends beside
+-- each other
 abbrev pub TellTheSame : (told found : List PacketData) → Type 0
 TellTheSame told found = (channel : ℕ) → channel ≢ 0 → told_of channel found ≡ told_of channel told
 

@@ -7,7 +7,8 @@ use Rattle.ch11_merge.specs.Kept.Held.{HeldFrame, HeldRecord}
 use Rattle.ch11_merge.specs.Merging.FilePiece.{OfFrames, OfRecord}
 use Rattle.ch11_merge.specs.Short.{IsShortPiece}
 use Rattle.ch11_file.specs.FileBlocks.{BlockContent, FileBlock, merged_in}
-use Rattle.ch11_file.specs.FileBlocks.BlockContent.{SetupBlock, TimeBlock, PieceBlock, NodeBlock, RootBlock}
+use Rattle.ch11_file.specs.FileBlocks.BlockContent.{SetupBlock, TimeBlock, PieceBlock, NodeBlock}
+use Rattle.ch11_file.specs.FileBlocks.BlockContent.{RootBlock}
 use Rattle.rec_reader.specs.Packets.{PacketData}
 use Rattle.rec_pieces.specs.Entries.{pieces_of_channel}
 
@@ -20,8 +21,8 @@ frame_held (HeldRecord counter body) = []
 abbrev pub file_frames : (channel : ℕ) → List FileBlock → List ReadFrameData
 file_frames channel blocks = flat_map frame_held (held_of channel (merged_in blocks))
 
--- what packets hold of a channel, in order: frames, and records with their bytes and, where they have one,
--- their counter
+-- what packets hold of a channel, in order: frames, and records with their bytes and, where they
+-- have one, their counter
 abbrev pub held_in_packets : (channel : ℕ) → List PacketData → List Held
 held_in_packets channel packets = flat_map held_in (pieces_of_channel channel packets)
 

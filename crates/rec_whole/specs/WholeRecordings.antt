@@ -1,4 +1,5 @@
--- The whole Chapter 11 file of a recording's packets: what it is made of, and why it is refused or ends early.
+-- The whole Chapter 11 file of a recording's packets: what it is made of, and why it is refused or
+-- ends early.
 use Rattle.std.specs.Prelude.{ℕ, ◌≡◌, ◌⊎◌, true, List, [], map, Option, None, Some}
 use Rattle.std.specs.Option.{unwrap_or}
 use Rattle.std.specs.Io.KnownBytes.{Appends}
@@ -6,7 +7,9 @@ use Rattle.ch11_clock.specs.declared.origin.Origin.{Origin}
 use Rattle.ch11_merge.specs.Merging.{ChannelLeft, channel_with}
 use Rattle.ch11_file.specs.declared.setup.FileSetup.{FileSetup}
 use Rattle.ch11_file.specs.declared.counts.FileCounts.{FileCounts}
-use Rattle.ch11_file.specs.declared.end.Refusal.TheVariants.{Disorder as IsDisordered, Gap as HasGap, Origin as NoOrigin, Year as NoYear}
+use Rattle.ch11_file.specs.declared.end.Refusal.TheVariants.{Disorder as IsDisordered}
+use Rattle.ch11_file.specs.declared.end.Refusal.TheVariants.{Gap as HasGap, Origin as NoOrigin}
+use Rattle.ch11_file.specs.declared.end.Refusal.TheVariants.{Year as NoYear}
 use Rattle.ch11_file.specs.WholeFile.{FileFacts, facts_of}
 use Rattle.ch11_file.specs.FileEnds.{HasNoGap, HoldsFile, HoldsFront, HoldsUpTo, IsRefused}
 use Rattle.rec_reader.specs.Packets.{PacketData}
@@ -14,9 +17,12 @@ use Rattle.rec_pieces.specs.Entries.{pieces_of_channel}
 use Rattle.rec_pieces.specs.Listings.{counters_of, least_of, other_of}
 use Rattle.rec_pieces.specs.PieceListings.{is_named, named_channels}
 use Rattle.rec_whole.specs.declared.names.FileNames.{FileNames}
-use Rattle.rec_whole.specs.declared.refusal.WholeRefusal.TheVariants.{Other, Disorder, Gap, Origin as LacksOrigin, Year, Full}
+use Rattle.rec_whole.specs.declared.refusal.WholeRefusal.TheVariants.{Other, Disorder, Gap}
+use Rattle.rec_whole.specs.declared.refusal.WholeRefusal.TheVariants.{Origin as LacksOrigin, Year}
+use Rattle.rec_whole.specs.declared.refusal.WholeRefusal.TheVariants.{Full}
 use Rattle.rec_whole.specs.declared.refusal.WholeEnd.{WholeEnd}
-use Rattle.rec_whole.specs.declared.refusal.WholeEnd.TheVariants.{Refused, Recording, Output, Memory}
+use Rattle.rec_whole.specs.declared.refusal.WholeEnd.TheVariants.{Refused, Recording, Output}
+use Rattle.rec_whole.specs.declared.refusal.WholeEnd.TheVariants.{Memory}
 use Rattle.ch11_channels.specs.FreeIds.{AreAllTaken, IsLeastFree}
 use Rattle.rec_whole.specs.NamedChannels.{AreNamed}
 
@@ -41,9 +47,10 @@ pub record SaysNames (names : FileNames) (setup : FileSetup) : Type 0 where
   pub source : setup.is_external ≡ names.is_external
   pub attributes : setup.attributes.now ≡ names.attributes.now
 
--- beside them it says that an index follows, the channels that packets name, and for the times the least channel
--- ID from 1 on that they don't
-pub record IsSetupOf (packets : List PacketData) (names : FileNames) (setup : FileSetup) : Type 0 where
+-- beside them it says that an index follows, the channels that packets name, and for the times the
+-- least channel ID from 1 on that they don't
+pub record IsSetupOf (packets : List PacketData) (names : FileNames)
+    (setup : FileSetup) : Type 0 where
   pub said : SaysNames names setup
   pub indexed : setup.is_indexed ≡ true
   pub time_channel : IsLeastFree (is_named packets) setup.time_channel
@@ -64,8 +71,9 @@ pub record OfFile (packets : List PacketData) (names : FileNames) (rules : List 
 
 -- ---- what is written
 
--- why a file that is made of this ended early: a refusal is true; else nothing went out, or what went out
--- begins the file, where the recording failed without a part of a packet, and where no piece is refused as a gap
+-- why a file that is made of this ended early: a refusal is true; else nothing went out, or what
+-- went out begins the file, where the recording failed without a part of a packet, and where no
+-- piece is refused as a gap
 abbrev pub EndsEarly : FileFacts → (before held : Option (List ℕ)) → WholeEnd → Type 0
 EndsEarly facts before held (Refused (Other at)) = ⊥
 EndsEarly facts before held (Refused (Disorder at)) = IsRefused facts before held (IsDisordered at)
@@ -73,7 +81,8 @@ EndsEarly facts before held (Refused (Gap at)) = IsRefused facts before held (Ha
 EndsEarly facts before held (Refused LacksOrigin) = IsRefused facts before held NoOrigin
 EndsEarly facts before held (Refused Year) = IsRefused facts before held NoYear
 EndsEarly facts before held (Refused Full) = ⊥
-EndsEarly facts before held Recording = Appends before held [] ⊎ HoldsUpTo facts before held HasNoGap
+EndsEarly facts before held Recording =
+    Appends before held [] ⊎ HoldsUpTo facts before held HasNoGap
 EndsEarly facts before held Output = HoldsFront facts before held
 EndsEarly facts before held Memory = Appends before held [] ⊎ HoldsFront facts before held
 
@@ -93,8 +102,9 @@ FileEndsEarly packets names rules most before held end =
 abbrev pub WritesNothing : List PacketData → (before held : Option (List ℕ)) → Type 0
 WritesNothing packets before held = (other_of packets ≡ None) × Appends before held []
 
--- why the file of these packets ended early. The first packet that names no channel is refused ahead of all
--- else, then that no channel ID is free. Memory may be out before there is a setup record.
+-- why the file of these packets ended early. The first packet that names no channel is refused
+-- ahead of all else, then that no channel ID is free. Memory may be out before there is a setup
+-- record.
 abbrev pub WholeFails : List PacketData → FileNames → List Origin → (most : ℕ)
     → (before held : Option (List ℕ)) → WholeEnd → Type 0
 WholeFails packets names rules most before held (Refused (Other at)) =

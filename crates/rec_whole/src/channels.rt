@@ -45,7 +45,8 @@ fn named<'a>(names: &[SetupChannel<'a>], id: u16) -> SetupChannel<'a>
 
 /// The channel ID of time packets: the least from 1 on that the recording doesn't name.
 pub(crate) fn time_channel(listing: &PieceListing) -> Option<u16>
-    ensures { MatchOption result (AreAllTaken (is_listed listing.now)) (IsLeastFree (is_listed listing.now)) }
+    ensures { MatchOption result (AreAllTaken (is_listed listing.now))
+        (IsLeastFree (is_listed listing.now)) }
 {
     'ids: for id in 1..=u16::MAX {
         if listing.packets_of(id).is_empty() {

@@ -21,7 +21,9 @@ ghost use Rattle.rec_pieces.specs.PieceListings.{is_named};
 ghost use Rattle.rec_pieces.specs.ToldPackets.{AreListedAs};
 ghost use Rattle.rec_whole.specs.FilesFound.{AreApprovedAs, HasNoFault, HaveSameChannels, TellTheSame};
 ghost use Rattle.rec_whole.specs.WholeFrames.{HasShortFrames, file_frames, held_in_packets};
-ghost use Rattle.rec_whole.specs.WholeRecordings.{facts_with};
+ghost use Rattle.rec_whole.specs.declared.refusal.WholeRefusal.{WholeRefusal};
+ghost use Rattle.rec_whole.specs.declared.refusal.WholeEnd.TheVariants.{Refused};
+ghost use Rattle.rec_whole.specs.WholeRecordings.{EndsEarly, facts_with};
 
 use ch11_file::{
     a_whole_file_has_no_other_channel, a_whole_file_keeps_each_channel,
@@ -81,14 +83,17 @@ pub fn a_whole_file_is_read_back()
     ensures same { (recording : List ℕ) (packets : List PacketData) (rules : List Origin) (most : ℕ)
         (setup : FileSetup) (blocks : List FileBlock) → Reads recording packets None
         → IsWholeFile (facts_with packets rules most setup) blocks
-        → (found : List PacketData) (fault : Option ReadFaultKind) → Reads (file_bytes blocks) found fault
+        → (found : List PacketData) (fault : Option ReadFaultKind)
+        → Reads (file_bytes blocks) found fault
         → (fault ≡ None) × HaveSameChannels packets found }
-    ensures approved { (recording : List ℕ) (packets : List PacketData) (rules : List Origin) (most : ℕ)
+    ensures approved { (recording : List ℕ) (packets : List PacketData) (rules : List Origin)
+        (most : ℕ)
         (setup : FileSetup) (blocks : List FileBlock) → Reads recording packets None
         → IsWholeFile (facts_with packets rules most setup) blocks → other_of packets ≡ None
         → (found : List PacketData) → Reads (file_bytes blocks) found None
         → (audit : Audit) → Audits packets (Ok audit) → AreApprovedAs found audit }
-    ensures no_fault { (recording : List ℕ) (packets : List PacketData) (rules : List Origin) (most : ℕ)
+    ensures no_fault { (recording : List ℕ) (packets : List PacketData) (rules : List Origin)
+        (most : ℕ)
         (setup : FileSetup) (blocks : List FileBlock) → Reads recording packets None
         → IsWholeFile (facts_with packets rules most setup) blocks → other_of packets ≡ None
         → (found : List PacketData) → Reads (file_bytes blocks) found None
@@ -106,23 +111,34 @@ pub fn a_whole_file_is_read_back()
 /// whole file tells of each channel what they tell, in order and once each, its frames, its programs and its ends
 /// beside each other, and the audit answers the same of it.
 pub fn a_whole_file_is_read_as_it_is_told()
-    ensures read { (told packets : List PacketData) (rules : List Origin) (most : ℕ) (setup : FileSetup)
-        (blocks : List FileBlock) → AreListedAs told packets → IsWholeFile (facts_with packets rules most setup) blocks
+    ensures read { (told packets : List PacketData) (rules : List Origin) (most : ℕ)
+        (setup : FileSetup)
+        (blocks : List FileBlock) → AreListedAs told packets
+        → IsWholeFile (facts_with packets rules most setup) blocks
         → (found : List PacketData) × Reads (file_bytes blocks) found None }
-    ensures same { (told packets : List PacketData) (rules : List Origin) (most : ℕ) (setup : FileSetup)
-        (blocks : List FileBlock) → AreListedAs told packets → IsWholeFile (facts_with packets rules most setup) blocks
-        → (found : List PacketData) (fault : Option ReadFaultKind) → Reads (file_bytes blocks) found fault
+    ensures same { (told packets : List PacketData) (rules : List Origin) (most : ℕ)
+        (setup : FileSetup)
+        (blocks : List FileBlock) → AreListedAs told packets
+        → IsWholeFile (facts_with packets rules most setup) blocks
+        → (found : List PacketData) (fault : Option ReadFaultKind)
+        → Reads (file_bytes blocks) found fault
         → (fault ≡ None) × TellTheSame told found }
-    ensures approved { (told packets : List PacketData) (rules : List Origin) (most : ℕ) (setup : FileSetup)
-        (blocks : List FileBlock) → AreListedAs told packets → IsWholeFile (facts_with packets rules most setup) blocks
+    ensures approved { (told packets : List PacketData) (rules : List Origin) (most : ℕ)
+        (setup : FileSetup)
+        (blocks : List FileBlock) → AreListedAs told packets
+        → IsWholeFile (facts_with packets rules most setup) blocks
         → other_of packets ≡ None → (found : List PacketData) → Reads (file_bytes blocks) found None
         → (audit : Audit) → Audits told (Ok audit) → AreApprovedAs found audit }
-    ensures no_fault { (told packets : List PacketData) (rules : List Origin) (most : ℕ) (setup : FileSetup)
-        (blocks : List FileBlock) → AreListedAs told packets → IsWholeFile (facts_with packets rules most setup) blocks
+    ensures no_fault { (told packets : List PacketData) (rules : List Origin) (most : ℕ)
+        (setup : FileSetup)
+        (blocks : List FileBlock) → AreListedAs told packets
+        → IsWholeFile (facts_with packets rules most setup) blocks
         → other_of packets ≡ None → (found : List PacketData) → Reads (file_bytes blocks) found None
         → HasNoFault told → HasNoFault found }
-    ensures all { (told packets : List PacketData) (rules : List Origin) (most : ℕ) (setup : FileSetup)
-        (blocks : List FileBlock) → AreListedAs told packets → IsWholeFile (facts_with packets rules most setup) blocks
+    ensures all { (told packets : List PacketData) (rules : List Origin) (most : ℕ)
+        (setup : FileSetup)
+        (blocks : List FileBlock) → AreListedAs told packets
+        → IsWholeFile (facts_with packets rules most setup) blocks
         → other_of packets ≡ None → (found : List PacketData) → Reads (file_bytes blocks) found None
         → (channel : ℕ) → channel_frames channel found ≡ channel_frames channel told }
 {
@@ -147,4 +163,13 @@ pub fn there_is_one_whole_file()
         (blocks others : List FileBlock) → IsClock rules → 0 < most
         → IsWholeFile (facts_with packets rules most setup) blocks
         → IsWholeFile (facts_with packets rules most setup) others → others ≡ blocks }
+{}
+
+/// Law: packets that have a whole file with a setup record aren't refused with it for their order, a gap or a time.
+pub fn a_whole_file_has_no_refusal_beside_it()
+    ensures { (packets : List PacketData) (rules : List Origin) (most : ℕ) (setup : FileSetup)
+        (blocks : List FileBlock) → IsClock rules → 0 < most
+        → IsWholeFile (facts_with packets rules most setup) blocks
+        → (before held : Option (List ℕ)) (refusal : WholeRefusal)
+        → ¬ EndsEarly (facts_with packets rules most setup) before held (Refused refusal) }
 {}

@@ -102,8 +102,10 @@ fn write_with_setup<P: PacketsAt, W: Write>(
     ensures { (places : PacketPlaces) (held : List PacketData) → P.there packets.now ≡ Some places
         → AreThere places held → ListsPackets held listing.now
         → MatchResult result
-        (HoldsFile (facts_with held clock.now most setup.now) (W.contents out.old) (W.contents out.new))
-        (EndsEarly (facts_with held clock.now most setup.now) (W.contents out.old) (W.contents out.new)) }
+        (HoldsFile (facts_with held clock.now most setup.now) (W.contents out.old)
+        (W.contents out.new))
+        (EndsEarly (facts_with held clock.now most setup.now) (W.contents out.old)
+        (W.contents out.new)) }
 {
     let least = least_counter(listing);
     // No packet that is read has such a counter.

@@ -1,12 +1,16 @@
 -- The command line: what the crate clap makes of the words, for the commands of this program.
-use Rattle.std.specs.Prelude.{◌≡◌, ◌≢◌, List, [], ◌∷◌, Option, Some, Bool, true, false, unwrap_or, codes}
+use Rattle.std.specs.Prelude.{◌≡◌, ◌≢◌, List, [], ◌∷◌, Option, Some, Bool, true, false, unwrap_or}
+use Rattle.std.specs.Prelude.{codes}
 use Rattle.std.specs.Borrow.{Bor}
 use Rattle.std.specs.Option.{option_map}
-use Rattle.clap.specs.Words.{App, Row, Rule, Text, first_of, new_app, new_rule, with_rule, with_subcommand}
+use Rattle.clap.specs.Words.{App, Row, Rule, Text, first_of, new_app, new_rule, with_rule}
+use Rattle.clap.specs.Words.{with_subcommand}
 use Rattle.clap.specs.declared.builder.ArgAction.TheVariants.{Set}
 use Rattle.rec_words.specs.declared.words.Words.{Words}
-use Rattle.rec_words.specs.declared.words.Words.TheVariants.{NoCommand, Asm, Dis, Verify, Run, List as ListOf, Audit}
-use Rattle.rec_words.specs.declared.words.Words.TheVariants.{Extract, Upgrade, Export, Chapter11, Record}
+use Rattle.rec_words.specs.declared.words.Words.TheVariants.{NoCommand, Asm, Dis, Verify, Run}
+use Rattle.rec_words.specs.declared.words.Words.TheVariants.{List as ListOf, Audit}
+use Rattle.rec_words.specs.declared.words.Words.TheVariants.{Extract, Upgrade, Export, Chapter11}
+use Rattle.rec_words.specs.declared.words.Words.TheVariants.{Record}
 use Rattle.rec_words.specs.declared.words.Words.TheVariants.{Simulate, Version}
 
 -- a word by its name, and whether it must be given
@@ -105,7 +109,8 @@ AsksFor met (Run file view) =
     (rows : List Row) × (met ≡ Some (codes "run", rows))
     × (file.now ≡ word_for (codes "FILE") rows) × (view.now ≡ word_for (codes "HEX") rows)
 AsksFor met (ListOf file) =
-    (rows : List Row) × (met ≡ Some (codes "list", rows)) × (file.now ≡ word_for (codes "FILE") rows)
+    (rows : List Row) × (met ≡ Some (codes "list", rows))
+    × (file.now ≡ word_for (codes "FILE") rows)
 AsksFor met (Audit file) =
     (rows : List Row) × (met ≡ Some (codes "audit", rows))
     × (file.now ≡ word_for (codes "FILE") rows)

@@ -1,14 +1,17 @@
 -- The format of settings in its own words: its keys and what each may have, which settings a table
 -- has, and in which order its faults are looked for.
-use Rattle.std.specs.Prelude.{ℕ, pos, Bool, true, false, ◌≡◌, ◌≢◌, ◌≤◌, ◌⊎◌, List, [], ◌∷◌, ◌++◌, length, map, All, AllPairs, None, Some, codes}
+use Rattle.std.specs.Prelude.{ℕ, pos, Bool, true, false, ◌≡◌, ◌≢◌, ◌≤◌, ◌⊎◌, List, [], ◌∷◌, ◌++◌}
+use Rattle.std.specs.Prelude.{length, map, All, AllPairs, None, Some, codes}
 use Rattle.std.specs.List.{Any, AllZip}
 use Rattle.toml.specs.Data.{Data, integer, string, array, Items, Members, get_member}
 use Rattle.toml.specs.Parse.{parse_document}
 use Rattle.ch11_packet.specs.declared.limit.TheConstants.{MIN_LIMIT, MAX_LIMIT}
 use Rattle.ch11_packet.specs.declared.frames.word.TheConstants.{MAX_SPEED}
 use Rattle.rec_channel.specs.declared.limits.TheConstants.{MAX_CHANNELS, MAX_RING}
-use Rattle.rec_words.specs.Settings.{Fault, syntax, unknown, missing, value, channels, same_channel, ChannelData, SettingsData, top_keys}
-use Rattle.rec_words.specs.Settings.{channel_keys, keys_of, tables_in, most_of_8_bits, most_of_16_bits, most_of_48_bits, most_of_63_bits}
+use Rattle.rec_words.specs.Settings.{Fault, syntax, unknown, missing, value, channels, same_channel}
+use Rattle.rec_words.specs.Settings.{ChannelData, SettingsData, top_keys}
+use Rattle.rec_words.specs.Settings.{channel_keys, keys_of, tables_in, most_of_8_bits}
+use Rattle.rec_words.specs.Settings.{most_of_16_bits, most_of_48_bits, most_of_63_bits}
 
 -- ---- keys
 
@@ -145,8 +148,8 @@ pub record AreDocumentSettings (members : Members) (settings : SettingsData) : T
 
 -- ---- faults
 
--- what is wrong with the key `channel`: it isn't set; or not to tables; or to none, or to more than a
--- recording may have
+-- what is wrong with the key `channel`: it isn't set; or not to tables; or to none, or to more than
+-- a recording may have
 abbrev pub AreNoTables : Members → Fault → Type 0
 AreNoTables members fault =
     ((get_member (codes "channel") members ≡ None) × (fault ≡ channels))
@@ -198,4 +201,5 @@ IsFaultOfText text fault =
 -- the text is a document that sets this
 abbrev pub AreSettingsOf : List ℕ → SettingsData → Type 0
 AreSettingsOf text settings =
-    (members : Members) × (parse_document text ≡ Some members) × AreDocumentSettings members settings
+    (members : Members) × (parse_document text ≡ Some members)
+    × AreDocumentSettings members settings

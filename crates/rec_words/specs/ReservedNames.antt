@@ -1,5 +1,6 @@
 -- The names of attributes that a setup record writes, so that no user may add one.
-use Rattle.std.specs.Prelude.{ℕ, ◌-◌, ◌≡◌, ◌≢◌, ◌⊎◌, ◌&&◌, ◌||◌, ◌==◌, nat_le, not, Bool, false, if◌then◌else◌}
+use Rattle.std.specs.Prelude.{ℕ, ◌-◌, ◌≡◌, ◌≢◌, ◌⊎◌, ◌&&◌, ◌||◌, ◌==◌, nat_le, not, Bool, false}
+use Rattle.std.specs.Prelude.{if◌then◌else◌}
 use Rattle.std.specs.Prelude.{List, [], ◌∷◌, ◌++◌, reverse, bytes_eq, codes}
 use Rattle.std.specs.List.{list_any, starts_with, AllByRecursion}
 use Rattle.ch11_setup.specs.declared.setup.Setup.{Setup}
@@ -99,4 +100,5 @@ own_attributes setup =
 -- each has a reserved name, or is the name of the test
 abbrev pub AreReserved : List AttributeData → Type 0
 AreReserved attributes =
-    AllByRecursion (λ attribute. IsReserved attribute.name ⊎ (attribute.name ≡ test_attribute)) attributes
+    AllByRecursion (λ attribute. IsReserved attribute.name
+    ⊎ (attribute.name ≡ test_attribute)) attributes

@@ -1,8 +1,11 @@
 -- What the settings of a recording are: by the table of a TOML document, or the first fault in it.
-use Rattle.std.specs.Prelude.{ℕ, pos, Bool, ◌&&◌, ◌==◌, nat_le, if◌then◌else◌, List, [], ◌∷◌, ◌++◌, map, length, Option, None}
-use Rattle.std.specs.Prelude.{Some, option_map, option_and_then, unwrap_or, Result, Ok, Err, bytes_eq, codes}
+use Rattle.std.specs.Prelude.{ℕ, pos, Bool, ◌&&◌, ◌==◌, nat_le, if◌then◌else◌, List, [], ◌∷◌, ◌++◌}
+use Rattle.std.specs.Prelude.{map, length, Option, None}
+use Rattle.std.specs.Prelude.{Some, option_map, option_and_then, unwrap_or, Result, Ok, Err}
+use Rattle.std.specs.Prelude.{bytes_eq, codes}
 use Rattle.std.specs.List.{list_any}
-use Rattle.toml.specs.Data.{Data, integer, string, array, Items, no_items, item, Members, no_members, member, as_table, get_member}
+use Rattle.toml.specs.Data.{Data, integer, string, array, Items, no_items, item, Members}
+use Rattle.toml.specs.Data.{no_members, member, as_table, get_member}
 use Rattle.toml.specs.Parse.{parse_document}
 use Rattle.ch11_packet.specs.declared.limit.TheConstants.{MIN_LIMIT, MAX_LIMIT}
 use Rattle.ch11_packet.specs.declared.frames.word.TheConstants.{MAX_SPEED}
@@ -134,7 +137,8 @@ tables_in (item found rest) =
 -- as many tables as a recording may have channels, and at least one
 abbrev pub enough : List Members → Result (List Members) Fault
 enough tables =
-    if nat_le 1 (length tables) && nat_le (length tables) MAX_CHANNELS then Ok tables else Err channels
+    if nat_le 1 (length tables)
+    && nat_le (length tables) MAX_CHANNELS then Ok tables else Err channels
 
 -- the tables of the channels
 abbrev pub tables_of : Data → Result (List Members) Fault
@@ -159,7 +163,8 @@ channels_in (members ∷ rest) = do
 abbrev pub repeated : List ℕ → List ℕ → Option ℕ
 repeated earlier [] = None
 repeated earlier (id ∷ rest) =
-    if list_any (λ before. before == id) earlier then Some id else repeated (earlier ++ id ∷ []) rest
+    if list_any (λ before. before == id) earlier then Some id else repeated (earlier ++ id
+    ∷ []) rest
 
 -- channels with an ID of their own
 abbrev pub distinct : List ChannelData → Result (List ChannelData) Fault

@@ -3,10 +3,17 @@ use Rattle.std.specs.Prelude.{◌≡◌, map, string_bytes, Result, Err}
 use Rattle.rec_words.specs.declared.settings.Settings.{Settings}
 use Rattle.rec_words.specs.declared.settings.ChannelSettings.{ChannelSettings}
 use Rattle.rec_words.specs.declared.settings.fault.SettingsFault.{SettingsFault}
-use Rattle.rec_words.specs.declared.settings.fault.SettingsFault.TheVariants.{Syntax, Unknown, Missing, Value, Channels, SameChannel, Memory}
+use Rattle.rec_words.specs.declared.settings.fault.SettingsFault.TheVariants.{Syntax, Unknown}
+use Rattle.rec_words.specs.declared.settings.fault.SettingsFault.TheVariants.{Missing, Value}
+use Rattle.rec_words.specs.declared.settings.fault.SettingsFault.TheVariants.{Channels, SameChannel}
+use Rattle.rec_words.specs.declared.settings.fault.SettingsFault.TheVariants.{Memory}
 use Rattle.rec_words.specs.declared.keys.fault.KeyFault.{KeyFault}
-use Rattle.rec_words.specs.declared.keys.fault.KeyFault.TheVariants.{Unknown as KeyUnknown, Missing as KeyMissing, Value as KeyValue, Memory as KeyMemory}
-use Rattle.rec_words.specs.Settings.{Fault, syntax, unknown, missing, value, channels, same_channel, ChannelData, SettingsData}
+use Rattle.rec_words.specs.declared.keys.fault.KeyFault.TheVariants.{Unknown as KeyUnknown}
+use Rattle.rec_words.specs.declared.keys.fault.KeyFault.TheVariants.{Missing as KeyMissing}
+use Rattle.rec_words.specs.declared.keys.fault.KeyFault.TheVariants.{Value as KeyValue}
+use Rattle.rec_words.specs.declared.keys.fault.KeyFault.TheVariants.{Memory as KeyMemory}
+use Rattle.rec_words.specs.Settings.{Fault, syntax, unknown, missing, value, channels, same_channel}
+use Rattle.rec_words.specs.Settings.{ChannelData, SettingsData}
 
 abbrev pub channel_data : ChannelSettings → ChannelData
 channel_data channel =

@@ -1,12 +1,17 @@
--- What the setup of a Chapter 11 file is: by the table of a TOML document, or the first fault in it.
-use Rattle.std.specs.Prelude.{ℕ, ◌*◌, ℤ, pos, negsuc, ◌-ℤ◌, Bool, false, ◌&&◌, ◌==◌, bytes_eq, nat_le, if◌then◌else◌, List, [], ◌∷◌, ◌++◌, length}
-use Rattle.std.specs.Prelude.{Option, None, Some, option_map, option_and_then, unwrap_or, Result, Ok, Err, codes, not, nat_lt, is_none}
+-- What the setup of a Chapter 11 file is: by the table of a TOML document, or the first fault in
+-- it.
+use Rattle.std.specs.Prelude.{ℕ, ◌*◌, ℤ, pos, negsuc, ◌-ℤ◌, Bool, false, ◌&&◌, ◌==◌, bytes_eq}
+use Rattle.std.specs.Prelude.{nat_le, if◌then◌else◌, List, [], ◌∷◌, ◌++◌, length}
+use Rattle.std.specs.Prelude.{Option, None, Some, option_map, option_and_then, unwrap_or, Result}
+use Rattle.std.specs.Prelude.{Ok, Err, codes, not, nat_lt, is_none}
 use Rattle.std.specs.List.{list_any, list_all}
-use Rattle.toml.specs.Data.{Data, string, boolean, array, Items, no_items, item, Members, as_str, get_member}
+use Rattle.toml.specs.Data.{Data, string, boolean, array, Items, no_items, item, Members, as_str}
+use Rattle.toml.specs.Data.{get_member}
 use Rattle.toml.specs.Parse.{parse_document}
 use Rattle.ch11_clock.specs.OriginText.{origin_said}
 use Rattle.ch11_setup.specs.Attributes.{AttributeData, attribute_of, cut_at, IsAttribute}
-use Rattle.rec_words.specs.Settings.{Fault, syntax, missing, value, ◌>>=◌, only, number_in, text_in, required, number_or}
+use Rattle.rec_words.specs.Settings.{Fault, syntax, missing, value, ◌>>=◌, only, number_in, text_in}
+use Rattle.rec_words.specs.Settings.{required, number_or}
 use Rattle.rec_words.specs.Settings.{tables_in, most_of_8_bits, most_of_16_bits, most_of_63_bits}
 use Rattle.rec_words.specs.ReservedNames.{is_reserved, IsReserved}
 
@@ -22,8 +27,8 @@ pub record ChannelSetupData : Type 0 where
   pub name : List ℕ
   pub net : ℕ
 
--- what is said of a recording: its origins, the place of the earlier one that it follows in its run, if it follows
--- one, and its channels
+-- what is said of a recording: its origins, the place of the earlier one that it follows in its
+-- run, if it follows one, and its channels
 pub record RecordingData : Type 0 where
   pub origins : List OriginData
   pub after : Option ℕ
@@ -95,7 +100,8 @@ tables_of key _ = Err (value key)
 -- what is read of each, in order, or the first fault; what is read of one may depend on what was
 -- read of those before it
 abbrev pub each_after :
-    {A B : Type 0} → (List B → A → Result B Fault) → (before : List B) → List A → Result (List B) Fault
+    {A B : Type 0} → (List B → A → Result B Fault) → (before : List B) → List A
+    → Result (List B) Fault
 each_after read before [] = Ok before
 each_after read before (one ∷ rest) =
     read before one >>= (λ found. each_after read (before ++ found ∷ []) rest)
@@ -114,8 +120,8 @@ without_offset is members =
     (option_map (λ _. Err (value (codes "tai_offset"))) (get_member (codes "tai_offset") members))
     (Ok is)
 
--- how many seconds the scale of a name is ahead of UTC; one that isn't known is as far ahead as is said of all
--- that aren't
+-- how many seconds the scale of a name is ahead of UTC; one that isn't known is as far ahead as is
+-- said of all that aren't
 abbrev pub ahead_of : (unknown : Option ℕ) → (name : List ℕ) → Members → Result ℕ Fault
 ahead_of unknown name members =
     if bytes_eq name (codes "UTC") then without_offset 0 members
@@ -156,7 +162,8 @@ in_utc told ahead = told -ℤ pos (ahead * 1_000_000_000)
 -- the origin from a counter on, unless its time is too early
 abbrev pub origin_unless : (is_early : Bool) → (counter : ℕ) → ℤ → Result OriginData Fault
 origin_unless is_early counter nanos =
-    if is_early then Err (value (codes "origin")) else Ok (record { counter = counter; nanos = nanos })
+    if is_early then Err (value (codes "origin")) else Ok
+    (record { counter = counter; nanos = nanos })
 
 -- ---- origins
 
@@ -218,7 +225,8 @@ attribute_with parts =
 -- the attribute that a text says: its name, a colon and its value
 abbrev pub attribute_said : List ℕ → Option AttributeData
 attribute_said text =
-    if list_all is_attribute_byte text then option_and_then attribute_with (cut_at 58 text) else None
+    if list_all is_attribute_byte text then option_and_then attribute_with
+    (cut_at 58 text) else None
 
 -- the attributes of items, each of which is the text of one
 abbrev pub attributes_said : Items → Option (List AttributeData)
@@ -283,7 +291,8 @@ abbrev pub is_place : (place : ℕ) → Option ℕ → Bool
 is_place place None = false
 is_place place (Some other) = other == place
 
--- whether a recording may follow the one at a place: that is one of those before it, and none of them follows it
+-- whether a recording may follow the one at a place: that is one of those before it, and none of
+-- them follows it
 abbrev pub may_follow : (before : List RecordingData) → (place : ℕ) → Bool
 may_follow before place =
     nat_lt place (length before) && not (list_any (λ earlier. is_place place earlier.after) before)
@@ -320,7 +329,8 @@ abbrev pub recordings_of :
     (count : ℕ) → (unknown : Option ℕ) → Members → Data → Result (List RecordingData) Fault
 recordings_of count unknown members found = do
   tables ← tables_of (codes "recording") found
-  _ ← if length tables == count && stands_alone members then Ok tables else Err (value (codes "recording"))
+  _ ← if length tables == count && stands_alone members then Ok tables
+      else Err (value (codes "recording"))
   each_after (recording_in unknown) [] tables
 
 -- ---- the document
@@ -339,7 +349,8 @@ general_in members = do
     attributes = attributes;
   })
 
--- what is said of a file of so many recordings, by what `recording` has; a single recording needs no table
+-- what is said of a file of so many recordings, by what `recording` has; a single recording needs
+-- no table
 abbrev pub file_by :
     (count : ℕ) → (unknown : Option ℕ) → Members → (recording : Option Data) → Result FileData Fault
 file_by count unknown members None = do

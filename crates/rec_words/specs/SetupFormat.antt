@@ -1,5 +1,6 @@
 -- The setup of a Chapter 11 file in its own words: what a text that has no fault says of a file.
-use Rattle.std.specs.Prelude.{ℕ, ◌*◌, ℤ, pos, ◌-ℤ◌, Bool, false, ◌≡◌, ◌≢◌, ◌<◌, ◌≤◌, Option, ◌⊎◌, List, [], ◌∷◌, ◌++◌, length, map, All, None, Some, codes}
+use Rattle.std.specs.Prelude.{ℕ, ◌*◌, ℤ, pos, ◌-ℤ◌, Bool, false, ◌≡◌, ◌≢◌, ◌<◌, ◌≤◌, Option, ◌⊎◌}
+use Rattle.std.specs.Prelude.{List, [], ◌∷◌, ◌++◌, length, map, All, None, Some, codes}
 use Rattle.std.specs.List.{AllZip}
 use Rattle.toml.specs.Data.{string, integer, boolean, array, Items, Members, get_member}
 use Rattle.toml.specs.Parse.{parse_document}
@@ -8,7 +9,8 @@ use Rattle.ch11_clock.specs.OriginText.{SaysOrigin}
 use Rattle.ch11_setup.specs.Attributes.{AttributeData}
 use Rattle.rec_words.specs.Settings.{tables_in, most_of_8_bits, most_of_16_bits}
 use Rattle.rec_words.specs.Format.{HasOnly, IsNumber, AreDistinctIds}
-use Rattle.rec_words.specs.SetupFile.{OriginData, ChannelSetupData, RecordingData, GeneralData, FileData}
+use Rattle.rec_words.specs.SetupFile.{OriginData, ChannelSetupData, RecordingData, GeneralData}
+use Rattle.rec_words.specs.SetupFile.{FileData}
 use Rattle.rec_words.specs.SetupFile.{file_keys, recording_keys, origin_keys, setup_channel_keys}
 use Rattle.rec_words.specs.SetupFile.{most_of_48_bits, most_origins, CanBeAdded}
 
@@ -29,7 +31,8 @@ IsTruth members name default truth =
 -- the key is set to a list of these tables
 abbrev pub IsSetToTables : Members → (name : List ℕ) → List Members → Type 0
 IsSetToTables members name tables =
-    (items : Items) × (get_member name members ≡ Some (array items)) × (tables_in items ≡ Some tables)
+    (items : Items) × (get_member name members ≡ Some (array items))
+    × (tables_in items ≡ Some tables)
 
 -- ---- what they say
 
@@ -47,8 +50,8 @@ IsSetToText members name text = get_member name members ≡ Some (string text)
 abbrev pub IsUnset : Members → (name : List ℕ) → Type 0
 IsUnset members name = get_member name members ≡ None
 
--- the table's scale is UTC, by name or since none is set; or TAI, so many seconds ahead of UTC; or one that isn't
--- known, of which is said how far ahead it is
+-- the table's scale is UTC, by name or since none is set; or TAI, so many seconds ahead of UTC; or
+-- one that isn't known, of which is said how far ahead it is
 abbrev pub IsAhead : (unknown : Option ℕ) → Members → (ahead : ℕ) → Type 0
 IsAhead unknown members ahead =
     ((IsUnset members (codes "scale") ⊎ IsSetToText members (codes "scale") (codes "UTC"))
@@ -61,11 +64,14 @@ IsAhead unknown members ahead =
 
 -- what is said of scales that aren't known: nothing, or what the document's own scale is
 abbrev pub IsSaidOfUnknown : Members → (unknown : Option ℕ) → Type 0
-IsSaidOfUnknown members None = IsUnset members (codes "scale") × IsUnset members (codes "tai_offset")
-IsSaidOfUnknown members (Some ahead) = (get_member (codes "scale") members ≢ None) × IsAhead None members ahead
+IsSaidOfUnknown members None =
+    IsUnset members (codes "scale") × IsUnset members (codes "tai_offset")
+IsSaidOfUnknown members (Some ahead) =
+    (get_member (codes "scale") members ≢ None) × IsAhead None members ahead
 
 -- this origin, in UTC, was noted in its table by the table's scale
-pub record IsNotedOrigin (unknown : Option ℕ) (members : Members) (origin : OriginData) : Type 0 where
+pub record IsNotedOrigin (unknown : Option ℕ) (members : Members)
+    (origin : OriginData) : Type 0 where
   pub told : ℤ
   pub ahead : ℕ
   pub only : HasOnly origin_keys members
@@ -126,14 +132,16 @@ IsAfter members None = IsUnset members (codes "after")
 IsAfter members (Some place) = get_member (codes "after") members ≡ Some (integer (pos place))
 
 -- this is said of a recording in its table
-pub record IsRecordingTable (unknown : Option ℕ) (members : Members) (recording : RecordingData) : Type 0 where
+pub record IsRecordingTable (unknown : Option ℕ) (members : Members)
+    (recording : RecordingData) : Type 0 where
   pub only : HasOnly recording_keys members
   pub origins_are : AreOrigins unknown members recording.origins
   pub after_is : IsAfter members recording.after
   pub channels_are : AreFileChannels members recording.channels
   pub distinct : AreDistinctIds (setup_ids recording.channels)
 
--- a recording that follows another does so behind these: that is one of them, and none of them follows it
+-- a recording that follows another does so behind these: that is one of them, and none of them
+-- follows it
 abbrev pub MayFollow : (before : List RecordingData) → (after : Option ℕ) → Type 0
 MayFollow before None = Unit {0}
 MayFollow before (Some place) =
@@ -146,7 +154,8 @@ AreRuns recordings =
     → recordings ≡ before ++ recording ∷ behind → MayFollow before recording.after
 
 -- it is what a document without tables of recordings says of its only one
-pub record IsOnlyRecording (unknown : Option ℕ) (members : Members) (recording : RecordingData) : Type 0 where
+pub record IsOnlyRecording (unknown : Option ℕ) (members : Members)
+    (recording : RecordingData) : Type 0 where
   pub unset : IsUnset members (codes "recording")
   pub origins_are : AreOrigins unknown members recording.origins
   pub after_is : recording.after ≡ None
@@ -154,7 +163,8 @@ pub record IsOnlyRecording (unknown : Option ℕ) (members : Members) (recording
   pub distinct : AreDistinctIds (setup_ids recording.channels)
 
 -- they are what a document says of recordings in a table for each, and it says nothing else of one
-pub record AreRecordings (unknown : Option ℕ) (members : Members) (recordings : List RecordingData) : Type 0 where
+pub record AreRecordings (unknown : Option ℕ) (members : Members)
+    (recordings : List RecordingData) : Type 0 where
   pub tables : List Members
   pub tables_are : IsSetToTables members (codes "recording") tables
   pub no_origin : IsUnset members (codes "origin")

@@ -9,8 +9,8 @@ use Rattle.rec_words.specs.SetupFormat.{IsUnset}
 abbrev pub HasSame : (one other : Members) → (name : List ℕ) → Type 0
 HasSame one other name = get_member name one ≡ get_member name other
 
--- what one document says of its recording at its top, the other says in its only table of one; of all else they say
--- the same
+-- what one document says of its recording at its top, the other says in its only table of one; of
+-- all else they say the same
 pub record SayOneRecording (top tabled table : Members) : Type 0 where
   pub top_known : HasOnly file_keys top
   pub tabled_known : HasOnly file_keys tabled

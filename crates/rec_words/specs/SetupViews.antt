@@ -3,16 +3,21 @@ use Rattle.std.specs.Prelude.{◌≡◌, map, string_bytes, Result, Err}
 use Rattle.ch11_clock.specs.declared.origin.Origin.{Origin}
 use Rattle.ch11_setup.specs.Attributes.{AttributeData, attribute_of}
 use Rattle.rec_words.specs.declared.keys.fault.KeyFault.{KeyFault}
-use Rattle.rec_words.specs.declared.keys.fault.KeyFault.TheVariants.{Unknown as KeyUnknown, Missing as KeyMissing, Value as KeyValue, Memory as KeyMemory}
+use Rattle.rec_words.specs.declared.keys.fault.KeyFault.TheVariants.{Unknown as KeyUnknown}
+use Rattle.rec_words.specs.declared.keys.fault.KeyFault.TheVariants.{Missing as KeyMissing}
+use Rattle.rec_words.specs.declared.keys.fault.KeyFault.TheVariants.{Value as KeyValue}
+use Rattle.rec_words.specs.declared.keys.fault.KeyFault.TheVariants.{Memory as KeyMemory}
 use Rattle.rec_words.specs.declared.setup_file.FileSettings.{FileSettings}
 use Rattle.rec_words.specs.declared.setup_file.AddedAttribute.{AddedAttribute}
 use Rattle.rec_words.specs.declared.setup_file.ChannelSetup.{ChannelSetup}
 use Rattle.rec_words.specs.declared.setup_file.GeneralSettings.{GeneralSettings}
 use Rattle.rec_words.specs.declared.setup_file.RecordingSettings.{RecordingSettings}
 use Rattle.rec_words.specs.declared.setup_file.fault.SetupFault.{SetupFault}
-use Rattle.rec_words.specs.declared.setup_file.fault.SetupFault.TheVariants.{Syntax, Unknown, Missing, Value, Memory}
+use Rattle.rec_words.specs.declared.setup_file.fault.SetupFault.TheVariants.{Syntax, Unknown}
+use Rattle.rec_words.specs.declared.setup_file.fault.SetupFault.TheVariants.{Missing, Value, Memory}
 use Rattle.rec_words.specs.Settings.{Fault, syntax, unknown, missing, value}
-use Rattle.rec_words.specs.SetupFile.{OriginData, ChannelSetupData, RecordingData, GeneralData, FileData}
+use Rattle.rec_words.specs.SetupFile.{OriginData, ChannelSetupData, RecordingData, GeneralData}
+use Rattle.rec_words.specs.SetupFile.{FileData}
 
 abbrev pub origin_data : Origin → OriginData
 origin_data origin = record { counter = origin.counter; nanos = origin.nanos }

@@ -1,5 +1,6 @@
 -- The sequence numbers of the packets to come, for each channel ID.
-use Rattle.std.specs.Prelude.{ℕ, ◌≡◌, ◌≢◌, ◌+◌, ◌%◌, List, ◌∷◌, map, get_or, slice_set, All, AllPairs}
+use Rattle.std.specs.Prelude.{ℕ, ◌≡◌, ◌≢◌, ◌+◌, ◌%◌, List, ◌∷◌, map, get_or, slice_set, All}
+use Rattle.std.specs.Prelude.{AllPairs}
 use Rattle.rec_lane.specs.Pieces.{PieceData}
 use Rattle.rec_writer.specs.Encoding.{next_sequence}
 use Rattle.rec_writer.specs.declared.numbers.Numbered.{Numbered}

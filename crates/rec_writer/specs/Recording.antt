@@ -6,8 +6,8 @@ use Rattle.rec_channel.specs.History.{Version}
 use Rattle.rec_lane.specs.Pieces.{LaneSettings, PieceData, channel_of, ArePieces}
 use Rattle.rec_writer.specs.Encoding.{writer_output}
 
--- a channel as it was recorded: what its lane was set to, the frames that were offered, the time marks
--- after each, and the history of its filter
+-- a channel as it was recorded: what its lane was set to, the frames that were offered, the time
+-- marks after each, and the history of its filter
 pub record RecordedChannel : Type 0 where
   pub settings : LaneSettings
   pub frames : List FrameData
@@ -23,7 +23,8 @@ pub record AreOfChannels (channels : List RecordedChannel) (pieces : List PieceD
   pub named : All (λ (piece : PieceData).
       Any (λ (c : RecordedChannel). c.settings.channel ≡ channel_of piece) channels) pieces
   pub each : All (λ (c : RecordedChannel).
-      ArePieces c.settings c.frames c.times c.history (filter (is_of c.settings.channel) pieces)) channels
+      ArePieces c.settings c.frames c.times c.history
+      (filter (is_of c.settings.channel) pieces)) channels
 
 -- the bytes are a recording of these channels
 abbrev pub IsRecording : (version : ℕ) → List RecordedChannel → List ℕ → Type 0

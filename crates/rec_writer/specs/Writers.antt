@@ -1,10 +1,12 @@
 -- What a writer holds, and the pieces that it stands for.
-use Rattle.std.specs.Prelude.{ℕ, ◌≡◌, ◌≢◌, ◌+◌, ◌-◌, ◌^◌, ◌<◌, Bool, true, false, min, List, [], ◌∷◌, ◌++◌, length, Contains, Option, slice_get, Some, take}
+use Rattle.std.specs.Prelude.{ℕ, ◌≡◌, ◌≢◌, ◌+◌, ◌-◌, ◌^◌, ◌<◌, Bool, true, false, min, List, []}
+use Rattle.std.specs.Prelude.{◌∷◌, ◌++◌, length, Contains, Option, slice_get, Some, take}
 use Rattle.std.specs.Io.KnownBytes.{Appends}
 use Rattle.rec_lane.specs.Pieces.{PieceData}
 use Rattle.rec_writer.specs.Recording.{RecordedChannel, IsRecording}
 use Rattle.rec_writer.specs.Encoding.{writer_output, piece_packet, packet_channel, next_sequence}
-use Rattle.rec_writer.specs.Numbers.{AreNext, numbered_channels, AreDistinctChannels, number_at, with_packet}
+use Rattle.rec_writer.specs.Numbers.{AreNext, numbered_channels, AreDistinctChannels, number_at}
+use Rattle.rec_writer.specs.Numbers.{with_packet}
 use Rattle.rec_writer.specs.declared.numbers.Numbered.{Numbered}
 use Rattle.rec_writer.specs.declared.fault.WriteFault.{WriteFault}
 use Rattle.rec_writer.specs.declared.fault.WriteFault.TheVariants.{Output, Failed}

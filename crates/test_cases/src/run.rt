@@ -151,7 +151,7 @@ where
     let owned = words_of(rt, words)?;
     let mut output = output;
     let mut errors = Vec::new(rt.alloc());
-    let status = rec_cli::program(rt, owned.as_slice(), input, &mut output, &mut errors);
+    let status = rec_cli::program(rt, owned.as_slice(), input, &mut output, &mut errors, false);
     Ok(Run {
         output,
         errors,

@@ -1,7 +1,7 @@
 //! Tests of pieces and of their order. Where they are cut and which comes next is worked by hand.
 
 use ch11_merge::*;
-use ch11_packet::ReadFrame;
+use ch11_packet::{MAX_ETHERNET_PACKET_LEN, ReadFrame};
 use std::alloc::Global;
 use std::test::Fail;
 
@@ -38,19 +38,19 @@ fn frames<'a>(
 fn lens(alloc: Global, frames: &[ReadFrame<'_>]) -> Result<Vec<usize>, Fail> {
     let mut lens = Vec::new(alloc);
     let mut piece = PieceSoFar::before(0);
-    let mut len = 0;
-    for frame in frames {
-        if len > 0 && !piece.goes_on(frame) {
-            lens.push(len)?;
-            len = 0;
-        }
-        if len == 0 {
+    let mut begin = 0;
+    for (at, frame) in frames.iter().enumerate() {
+        let is_full = piece.len > MAX_ETHERNET_PACKET_LEN as usize;
+        if at == begin || is_full || !piece.goes_on(frame) {
+            if at > begin {
+                lens.push(at - begin)?;
+            }
+            begin = at;
             piece = PieceSoFar::before(frame.counter);
         }
         piece = piece.with(frame);
-        len += 1;
     }
-    lens.push(len)?;
+    lens.push(frames.len().saturating_sub(begin))?;
     Ok(lens)
 }
 
@@ -155,7 +155,7 @@ impl<'a> PieceSource for Records<'a> {
 
     type Piece = Head;
 
-    ghost data_of = { λ _. OfRecord None [] };
+    ghost data_of = { λ _. OfRecord 0 None [] };
 
     ghost left = { λ _. None };
 

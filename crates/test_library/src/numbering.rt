@@ -50,6 +50,11 @@ fn channels_that_meet_get_the_least_id_that_no_recording_has(rt: HostRuntime) ->
 #[test]
 fn recordings_that_follow_one_another_are_a_run(rt: HostRuntime) -> Result<(), Fail> {
     let runs = runs_of(rt.alloc(), &[None, Some(0), None, Some(1)])?;
-    assert_same!(rt; runs.as_slice(), [0, 0, 2, 0].as_slice());
+    let mut first = String::new(rt.alloc());
+    for run in &runs {
+        let part = format!(in rt.alloc(); "{run} ")?;
+        first.push_str(part.as_str())?;
+    }
+    assert_same!(rt; first.as_str(), "0 0 2 0 ");
     Ok(())
 }

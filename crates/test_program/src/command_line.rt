@@ -26,7 +26,7 @@ where
     R::File: Send + LockFile + PlacedRead,
     R::Dir: Send,
 {
-    program(rt, &[], input, output, errors)
+    program(rt, &[], input, output, errors, false)
 }
 
 /// Runs the program on an input, and compares its status, output and errors.

@@ -34,7 +34,7 @@ fn check<R: AllocGlobal + Abort>(
 ) {
     let mut out = Vec::new(rt.alloc());
     let mut err = Vec::new(rt.alloc());
-    let ended = ending.report(rt.alloc(), &mut out, &mut err);
+    let ended = ending.report(rt.alloc(), &mut out, &mut err, false);
     assert_same!(*rt; ended, status, "{output}{errors}");
     assert_same!(*rt; out.as_slice(), output.as_bytes(), "{output}{errors}");
     assert_same!(*rt; err.as_slice(), errors.as_bytes(), "{output}{errors}");

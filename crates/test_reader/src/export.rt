@@ -58,14 +58,21 @@ impl Read for Asked<'_> {
     }
 }
 
+/// Exports a recording whole.
+fn export<R: Read, W: Write>(alloc: Global, input: &mut R, out: &mut W) -> Result<(), Fail> {
+    let mut reader = Reader::new(alloc, input);
+    match export_recording(alloc, &mut reader, None, out) {
+        Ok(()) => Ok(()),
+        Err(_) => Err("the export".into()),
+    }
+}
+
 /// How many bytes the export of a recording has.
 fn export_len(alloc: Global, recording: &[u8]) -> Result<usize, Fail> {
     let mut out = Vec::new(alloc);
-    let mut reader = Reader::new(alloc, recording);
-    match export_recording(alloc, &mut reader, None, &mut out) {
-        Ok(()) => Ok(out.len()),
-        Err(_) => Err("the export".into()),
-    }
+    let mut input = recording;
+    export(alloc, &mut input, &mut out)?;
+    Ok(out.len())
 }
 
 #[test]
@@ -83,10 +90,12 @@ fn what_was_exported_is_gone_before_the_next_packet_is_read(rt: HostRuntime) -> 
         waits: 0,
         gone: &gone,
     };
-    let mut reader = Reader::new(alloc, &mut input);
-    assert!(rt; export_recording(alloc, &mut reader, None, &mut out) == Ok(()));
+    export(alloc, &mut input, &mut out)?;
     for end in &ENDS {
-        let wanted = export_len(alloc, &recording[..*end])?;
+        let Some(part) = recording.as_slice().get(..*end) else {
+            return Err("a recording of that length".into());
+        };
+        let wanted = export_len(alloc, part)?;
         let Some((_, gone)) = input.seen.iter().find(|seen| seen.0 == *end) else {
             return Err("a read at each packet's beginning".into());
         };

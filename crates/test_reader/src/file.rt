@@ -114,7 +114,7 @@ fn file_of(
     let channels = channels_of(alloc, &listing)?;
     let setup = setup_of(channels.as_slice());
     let least = listing.least().unwrap_or(0);
-    if least >= 1 << 48 || channels.len() >= 1 << 16 || most == 0 || most > 16_384 {
+    if least >= 1 << 48 || setup.channels.len() >= 1 << 16 || most == 0 || most > 16_384 {
         return Err("what a file can be made of".into());
     }
     let mut out = Limited {

@@ -10,8 +10,8 @@ use Rattle.rec_theorem.specs.Theorem.{Finds, FindsCut}
 
 module _ {S C W : Type 0}
     (left : S → Option Left) (given : C → List Given) (contents : W → Option (List ℕ)) where
-  -- behind what it held, the output has bytes in which the accepted frames of each job are found, and
-  -- no others; the programs in force are the jobs' and the changes that the control gave since
+  -- behind what it held, the output has bytes in which the accepted frames of each job are found,
+  -- and no others; the programs in force are the jobs' and the changes that the control gave since
   abbrev pub FindsAll : List (Job S) → C → W → Done S C W → Type 0
   FindsAll jobs control out done =
       (before : List ℕ) → contents out ≡ Some before

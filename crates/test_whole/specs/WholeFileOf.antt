@@ -8,8 +8,8 @@ use Rattle.rec_whole.specs.declared.names.FileNames.{FileNames}
 use Rattle.rec_whole.specs.WholeRecordings.{WritesRecording}
 use Rattle.rec_whole.specs.FilesFound.{HasNoFault, HaveSameChannels}
 
--- the recording is read to its end, the bytes are its whole file, and a reader finds in them of each channel
--- what it finds in the recording
+-- the recording is read to its end, the bytes are its whole file, and a reader finds in them of
+-- each channel what it finds in the recording
 pub record IsWholeFileOf (recording : List ℕ) (names : FileNames) (rules : List Origin) (most : ℕ)
     (file : List ℕ) : Type 0 where
   pub packets : List PacketData

@@ -24,7 +24,8 @@ pub fn whole_file_of(
 ) -> Result<Vec<u8>, WholeEnd>
     requires some { 0 < most }
     requires few { most ≤ MOST_NAMED }
-    ensures { IfOk result (λ file. IsWholeFileOf recording.now names.now clock.now most file.items) }
+    ensures { IfOk result
+        (λ file. IsWholeFileOf recording.now names.now clock.now most file.items) }
 {
     a_whole_file_is_read_back();
     packets_are_read_at_their_places();

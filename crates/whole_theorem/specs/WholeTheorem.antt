@@ -8,8 +8,8 @@ use Rattle.rec_whole.specs.declared.names.FileNames.{FileNames}
 use Rattle.rec_whole.specs.WholeRecordings.{WritesRecording}
 
 module _ {V : Type 0} (contents : V → Option (List ℕ)) where
-  -- the whole file of a recording with these bytes went out; and the output, which says what it holds, took
-  -- these bytes since it held those before
+  -- the whole file of a recording with these bytes went out; and the output, which says what it
+  -- holds, took these bytes since it held those before
   pub record HasWritten (recording : List ℕ) (names : FileNames) (rules : List Origin) (most : ℕ)
       (first last : V) (counts : FileCounts) (before file : List ℕ) : Type 0 where
     pub packets : List PacketData

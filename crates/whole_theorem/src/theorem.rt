@@ -32,7 +32,8 @@ pub fn what_is_recorded_is_in_its_whole_file<
         (done : Done S C W) (before bytes : List ℕ)
         → (recorded : HasRecorded S.left S.failures S.ending C.given C.answered C.ended W.contents
         jobs version control out done before bytes)
-        → (names : FileNames) (rules : List Origin) (most : ℕ) (first last : V) (counts : FileCounts)
+        → (names : FileNames) (rules : List Origin) (most : ℕ) (first last : V)
+        (counts : FileCounts)
         (ahead file : List ℕ)
         → HasWritten V.contents bytes names rules most first last counts ahead file
         → Finds S.left jobs done.report.channels.items recorded.controlled.changes file }
@@ -40,7 +41,8 @@ pub fn what_is_recorded_is_in_its_whole_file<
         (done : Done S C W) (before bytes : List ℕ)
         → (recorded : HasRecorded S.left S.failures S.ending C.given C.answered C.ended W.contents
         jobs version control out done before bytes)
-        → (names : FileNames) (rules : List Origin) (most : ℕ) (first last : V) (counts : FileCounts)
+        → (names : FileNames) (rules : List Origin) (most : ℕ) (first last : V)
+        (counts : FileCounts)
         (ahead file : List ℕ)
         → HasWritten V.contents bytes names rules most first last counts ahead file
         → IsAnswered S.left jobs done.report.channels.items recorded.controlled.changes file }

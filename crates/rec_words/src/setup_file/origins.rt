@@ -118,8 +118,10 @@ fn origin_in(alloc: Global, table: &Table, unknown: Option<u64>) -> Result<Origi
 /// The time that a table's `origin` says, in nanoseconds since 1970 by its scale.
 fn time_at(table: &Table) -> Result<i128, KeyFault>
     ensures time { MatchResult result
-        (λ told. required (time_told_in (codes "origin")) (codes "origin") (table_view table.now) ≡ Ok told)
-        (KeyReports (required (time_told_in (codes "origin")) (codes "origin") (table_view table.now))) }
+        (λ told. required (time_told_in (codes "origin")) (codes "origin")
+        (table_view table.now) ≡ Ok told)
+        (KeyReports (required (time_told_in (codes "origin")) (codes "origin")
+        (table_view table.now))) }
     ensures fits { IfOk result (λ told. (counter : ℕ) → counter < 2 ^ 48 → IsOrigin counter told) }
 {
     match value_at(table, "origin") {
@@ -150,7 +152,8 @@ fn origin_before(counter: u64, told: i128, ahead: u64) -> Result<Origin, KeyFaul
     ensures { MatchResult result
         (λ found. origin_unless (is_too_early (in_utc told ahead)) counter (in_utc told ahead)
         ≡ Ok (origin_data found))
-        (KeyReports (origin_unless (is_too_early (in_utc told ahead)) counter (in_utc told ahead))) }
+        (KeyReports (origin_unless (is_too_early (in_utc told ahead)) counter
+        (in_utc told ahead))) }
 {
     let nanos = told - i128::from(ahead) * NANOS;
     Origin::new(counter, nanos).ok_or(KeyFault::Value { key: "origin" })

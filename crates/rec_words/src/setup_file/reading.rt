@@ -80,7 +80,8 @@ fn file_by(
 ) -> Result<FileSettings, KeyFault>
     requires { IfSome unknown (λ ahead. ahead ≤ 255) }
     ensures said { MatchResult result
-        (λ found. file_by count unknown (table_view table.now) (get_member (codes "recording") (table_view table.now))
+        (λ found. file_by count unknown (table_view table.now)
+        (get_member (codes "recording") (table_view table.now))
         ≡ Ok (file_data found))
         (KeyReports (file_by count unknown (table_view table.now)
         (get_member (codes "recording") (table_view table.now)))) }

@@ -1,4 +1,4 @@
-use Rattle.std.proofs.Common.{◌≡◌, ◌∙◌, true, false, ap, sym, subst}
+use Rattle.std.proofs.Common.{◌∙◌, ap, sym, subst}
 use Rattle.rec_reader.specs.Packets.{PacketData}
 use Rattle.rec_joined.specs.Moving.{moving_of}
 use Rattle.rec_joined.specs.MovedPackets.{IsUncountedAs, is_left_out}

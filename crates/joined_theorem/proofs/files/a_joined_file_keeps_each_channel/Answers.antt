@@ -1,6 +1,6 @@
 use Rattle.std.proofs.Common.{◌∙◌}
 use Rattle.rec_joined.specs.JoinedPackets.{joined_packets}
-use Rattle.cli_chapter11.proofs.laws.a_joined_file_keeps_each_channel.Goals as goal
+use Rattle.joined_theorem.proofs.files.a_joined_file_keeps_each_channel.Goals as goal
 
 pub returns : goal.returns
 returns g c = λ parts read are rules most setup blocks whole id some fits named.

@@ -1,6 +1,6 @@
 use Rattle.std.proofs.Common.{◌∙◌}
 use Rattle.rec_joined.specs.JoinedPackets.{joined_packets, joined_told}
-use Rattle.cli_chapter11.proofs.laws.a_joined_file_is_read_back.Goals as goal
+use Rattle.joined_theorem.proofs.files.a_joined_file_is_read_back.Goals as goal
 
 pub returns-clause-read : goal.returns-clause-read
 returns-clause-read g c = λ parts read are rules most setup blocks whole.

@@ -1,4 +1,4 @@
-//! Laws of a file of several recordings, with nothing to run.
+//! Laws of what is in the file, with nothing to run.
 
 ghost use Rattle.std.specs.Prelude.{ℕ, ◌≡◌, ◌≢◌, ◌<◌, ◌^◌, true, List, Option, None, Ok};
 ghost use Rattle.ch11_clock.specs.declared.origin.Origin.{Origin};
@@ -28,7 +28,8 @@ use rec_whole::{a_whole_file_is_read_as_it_is_told, a_whole_file_keeps_the_frame
 /// that get it, recording by recording, in order and once each, with their counters in the file and else as they were.
 /// So of a run it has those of all its recordings, one list behind the other.
 pub fn a_joined_file_keeps_each_channel<P: PacketsAt>()
-    ensures { (parts : List (Part P)) (read : List (List PacketData)) → AreParts P.there 0 parts read
+    ensures { (parts : List (Part P)) (read : List (List PacketData))
+        → AreParts P.there 0 parts read
         → (rules : List Origin) (most : ℕ) (setup : FileSetup) (blocks : List FileBlock)
         → IsWholeFile (facts_with (joined_packets parts read) rules most setup) blocks
         → (id : ℕ) → id ≢ 0 → id < 2 ^ 16 → is_named (joined_packets parts read) id ≡ true
@@ -43,22 +44,27 @@ pub fn a_joined_file_keeps_each_channel<P: PacketsAt>()
 /// recordings, one list behind the other. Where the audit of those packets says yes, that of the file does too, with
 /// the same lines.
 pub fn a_joined_file_is_read_back<P: PacketsAt>()
-    ensures read { (parts : List (Part P)) (read : List (List PacketData)) → AreParts P.there 0 parts read
+    ensures read { (parts : List (Part P)) (read : List (List PacketData))
+        → AreParts P.there 0 parts read
         → (rules : List Origin) (most : ℕ) (setup : FileSetup) (blocks : List FileBlock)
         → IsWholeFile (facts_with (joined_packets parts read) rules most setup) blocks
         → (found : List PacketData) × Reads (file_bytes blocks) found None }
-    ensures same { (parts : List (Part P)) (read : List (List PacketData)) → AreParts P.there 0 parts read
+    ensures same { (parts : List (Part P)) (read : List (List PacketData))
+        → AreParts P.there 0 parts read
         → (rules : List Origin) (most : ℕ) (setup : FileSetup) (blocks : List FileBlock)
         → IsWholeFile (facts_with (joined_packets parts read) rules most setup) blocks
-        → (found : List PacketData) (fault : Option ReadFaultKind) → Reads (file_bytes blocks) found fault
+        → (found : List PacketData) (fault : Option ReadFaultKind)
+        → Reads (file_bytes blocks) found fault
         → (fault ≡ None) × TellTheSame (joined_told parts read) found }
-    ensures frames { (parts : List (Part P)) (read : List (List PacketData)) → AreParts P.there 0 parts read
+    ensures frames { (parts : List (Part P)) (read : List (List PacketData))
+        → AreParts P.there 0 parts read
         → (rules : List Origin) (most : ℕ) (setup : FileSetup) (blocks : List FileBlock)
         → IsWholeFile (facts_with (joined_packets parts read) rules most setup) blocks
         → other_of (joined_packets parts read) ≡ None
         → (found : List PacketData) → Reads (file_bytes blocks) found None
         → (id : ℕ) → channel_frames id found ≡ frames_of_parts id parts read }
-    ensures approved { (parts : List (Part P)) (read : List (List PacketData)) → AreParts P.there 0 parts read
+    ensures approved { (parts : List (Part P)) (read : List (List PacketData))
+        → AreParts P.there 0 parts read
         → (rules : List Origin) (most : ℕ) (setup : FileSetup) (blocks : List FileBlock)
         → IsWholeFile (facts_with (joined_packets parts read) rules most setup) blocks
         → other_of (joined_packets parts read) ≡ None
