@@ -28,8 +28,8 @@ import random
 
 from drawn_recording import DrawnRecording, drawn_insns
 from frames import numbered, write_feed
-from ground import PUBLISH, RECEIVE, listening, published, write_facts
-from support import BPFREC, KEEPS_ALL
+from ground import listening, published, write_facts
+from support import BPFREC, KEEPS_ALL, PUBLISH, RECEIVE
 from whole_file import Origin, Setup
 
 GOAL, TICKS_A_FRAME, PATIENCE = 300_000, 100, 120

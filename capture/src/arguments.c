@@ -200,7 +200,7 @@ static bool take_option(int option, char *value, struct arguments *arguments) {
 
 /* Says what is wrong, of which argument: the status. */
 static int wrong(const char *what, const char *argument) {
-    log_line("%s%s: capture --help has its arguments", what, argument);
+    log_line("%s%s: bpfrec capture --help has its arguments", what, argument);
     return WRONG_ARGUMENTS;
 }
 

@@ -8,7 +8,7 @@
 #include <string.h>
 
 enum { LINK_TYPE_ETHERNET = 1, MAGIC_LEN = 4 };
-static const unsigned char GZIP_MAGIC[] = {0x1F, 0x8B};
+static const unsigned char GZIP_MAGIC[] = {0x1F, 0x8B}, RECORDING_MAGIC[] = {0x25, 0xEB};
 
 /* What is captured beside Ethernet, mostly. */
 static const struct {
@@ -88,6 +88,8 @@ bool open_file(struct capture_file *file, const char *path, int chosen) {
         return open_pcap(file);
     if (magic == READING_SOME && memcmp(next_bytes(input), GZIP_MAGIC, sizeof GZIP_MAGIC) == 0)
         return refuse(input, "compressed by gzip: zcat makes a capture of it");
+    if (magic == READING_SOME && memcmp(next_bytes(input), RECORDING_MAGIC, sizeof RECORDING_MAGIC) == 0)
+        return refuse(input, "a recording: bpfrec export makes a capture of it");
     return (magic == READING_SOME && is_pcapng(file)) || refuse(input, "no pcap or pcapng file");
 }
 

@@ -33,7 +33,7 @@ struct setting {
     _Atomic int64_t last_old, first_new; /* the last frame that was stamped before it, and the first after it */
 };
 
-/* A look at both clocks. */
+/* A look at both clocks: when it was, how far the wall clock was ahead, and how long it took. */
 struct look {
     int64_t steady, ahead, took;
 };
@@ -45,7 +45,7 @@ static _Atomic int64_t last_look; /* which saw no setting */
 static unsigned reported;         /* the number of the last setting that was reported */
 static struct origin origin;
 static struct scale noted_scale; /* of the origins that were noted last */
-static nanoseconds turned;       /* by how much counters have begun at 0 again since the beginning */
+static nanoseconds turned_by;    /* by how much counters have begun at 0 again since the beginning */
 static uint64_t counter_before;  /* at the last look */
 static unsigned first_high;  /* the setting that held when counters came into their upper half, or at the beginning */
 static unsigned last_before; /* the last setting before they began at 0 again */
@@ -156,11 +156,11 @@ static void note_origin(unsigned number, nanoseconds since, uint64_t counter) {
  * half, of before: of several origins that hold for a counter the last counts. */
 static void note_upper_half(void) {
     unsigned first = last_before - first_high < MOST_NOTED ? first_high : last_before - MOST_NOTED + 1;
-    if (turned == 0 || counter_before >= UPPER_HALF || atomic_load(&newest) - first >= KEPT_SETTINGS)
+    if (turned_by == 0 || counter_before >= UPPER_HALF || atomic_load(&newest) - first >= KEPT_SETTINGS)
         return;
     for (unsigned number = first; number <= last_before; number++) {
         uint64_t counter = setting_of(number)->counter;
-        note_origin(number, turned - COUNTER_TURN, number == first ? UPPER_HALF : counter);
+        note_origin(number, turned_by - COUNTER_TURN, number == first ? UPPER_HALF : counter);
     }
 }
 
@@ -169,12 +169,12 @@ static void note_upper_half(void) {
 static bool place_setting(unsigned number) {
     struct setting *setting = setting_of(number);
     setting->counter = counter_of(holds_from(setting));
-    return turned != 0 && counter_before < UPPER_HALF && setting->counter >= UPPER_HALF;
+    return turned_by != 0 && counter_before < UPPER_HALF && setting->counter >= UPPER_HALF;
 }
 
 /* Prints the origin from a setting on, and by how much the clock was set. */
 static void print_setting(unsigned number, bool is_before, char text[SECONDS_TEXT_LEN], char by[SECONDS_TEXT_LEN]) {
-    print_seconds(origin.at + turned - (is_before ? COUNTER_TURN : 0) + set_by(number), text);
+    print_seconds(origin.at + turned_by - (is_before ? COUNTER_TURN : 0) + set_by(number), text);
     print_seconds(setting_of(number)->ahead - setting_of(number - 1)->ahead, by);
 }
 
@@ -207,7 +207,7 @@ static void report_setting(unsigned number) {
     /* It came just before counters began at 0 again, and holds for those too. */
     if (is_before) {
         last_before = number;
-        note_origin(number, turned, 0);
+        note_origin(number, turned_by, 0);
     }
     note_upper_half();
     pthread_mutex_unlock(&lock);
@@ -231,7 +231,7 @@ static void follow_scale(void) {
         return;
     pthread_mutex_lock(&lock);
     noted_scale = scale;
-    note_origin(reported, turned, 0);
+    note_origin(reported, turned_by, 0);
     note_upper_half();
     pthread_mutex_unlock(&lock);
 }
@@ -243,19 +243,19 @@ static void follow_counter(void) {
     counter_before = counter_now();
     bool has_turned = counter_before < before;
     if (has_turned) {
-        turned += COUNTER_TURN;
+        turned_by += COUNTER_TURN;
         last_before = reported;
-        note_origin(reported, turned, 0);
+        note_origin(reported, turned_by, 0);
         note_upper_half();
     } else if (before < UPPER_HALF && counter_before >= UPPER_HALF) {
         first_high = reported;
-        if (turned != 0)
-            note_origin(reported, turned, UPPER_HALF);
+        if (turned_by != 0)
+            note_origin(reported, turned_by, UPPER_HALF);
     }
     pthread_mutex_unlock(&lock);
     if (has_turned) {
         char text[SECONDS_TEXT_LEN];
-        print_seconds(origin.at + turned + set_by(reported), text);
+        print_seconds(origin.at + turned_by + set_by(reported), text);
         log_line("origin %s from counter 0 on: counters have begun at 0 again", text);
     }
 }

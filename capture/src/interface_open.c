@@ -46,7 +46,8 @@ static bool refused_by(pcap_t *pcap, const char *name, int status) {
     case PCAP_ERROR_NO_SUCH_DEVICE:
         return refused(name, "no such interface");
     case PCAP_ERROR_IFACE_NOT_UP:
-        return refused(name, "it is down: ip link set it up");
+        log_line("%s: it is down: ip link set %s up", name, name);
+        return false;
     case PCAP_ERROR:
         return refused(name, pcap_geterr(pcap));
     default:

@@ -52,14 +52,15 @@ static void put_text(char line[LINE_LEN], const char *text) {
 void log_line(const char *format, ...) {
     static pthread_mutex_t lock = PTHREAD_MUTEX_INITIALIZER;
     static unsigned left_out;
-    char text[TEXT_LEN], line[LINE_LEN] = "capture: ", count_line[LINE_LEN];
+    char text[TEXT_LEN], line[LINE_LEN] = "bpfrec capture: ", count_line[LINE_LEN];
     va_list values;
     va_start(values, format);
     vsnprintf(text, sizeof text, format, values);
     va_end(values);
     put_text(line, text);
     pthread_mutex_lock(&lock);
-    snprintf(count_line, sizeof count_line, "capture: %u lines were left out: standard error had no room\n", left_out);
+    snprintf(count_line, sizeof count_line, "bpfrec capture: %u lines were left out: standard error had no room\n",
+             left_out);
     if (left_out > 0 && write_line(count_line))
         left_out = 0;
     left_out += left_out > 0 || !write_line(line);

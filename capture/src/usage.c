@@ -1,8 +1,8 @@
 #include "usage.h"
 
 const char USAGE[] =
-    "usage: capture [OPTION..] INTERFACE=PIPE..\n"
-    "       capture [OPTION..] -r FILE=FEED..\n"
+    "usage: bpfrec capture [OPTION..] INTERFACE=PIPE..\n"
+    "       bpfrec capture [OPTION..] -r FILE=FEED..\n"
     "\n"
     "Makes feeds for bpfrec of the frames of interfaces, as they come, or of capture files (pcap or pcapng).\n"
     "A PIPE is a named pipe, which is waited for until it has a reader, or a file; - is standard output, and\n"

@@ -11,7 +11,7 @@ from c_units import LEAKS, Units
 from support import outcome
 
 NOW = 1_764_590_400
-HINT = ": capture --help has its arguments\n"
+HINT = ": bpfrec capture --help has its arguments\n"
 LINE_LEN = 4096
 MOST_SPAN = 2**48 - 1
 TICKS = f"TICKS, of 100 ns, 1 to {MOST_SPAN}"
@@ -44,8 +44,8 @@ class Arguments:
     def refusal(self, *arguments: str, **more: Any) -> str:
         """What is said of arguments that are wrong."""
         done = self.outcome(*arguments, **more)
-        assert (done.returncode, done.stdout) == (2, "") and done.stderr.startswith("capture: "), arguments
-        return str(done.stderr)[9:]
+        assert (done.returncode, done.stdout) == (2, "") and done.stderr.startswith("bpfrec capture: "), arguments
+        return str(done.stderr).removeprefix("bpfrec capture: ")
 
 
 @pytest.fixture
@@ -179,7 +179,10 @@ def test_an_unknown_option_or_one_without_its_value_is_refused(arguments: Argume
 
 def test_help_with_each_option_and_the_version_are_printed_whatever_else_is_there(arguments: Arguments) -> None:
     others = ["origin", "prefilter", "span", "no-promiscuous", "quiet", "strict", "events", "counts"]
-    parts = ["usage: capture [OPTION..] INTERFACE=PIPE..\n", *(f"\n  --{it} " for it in [*NUMBERS, *WORDS, *others])]
+    parts = [
+        "usage: bpfrec capture [OPTION..] INTERFACE=PIPE..\n",
+        *(f"\n  --{it} " for it in [*NUMBERS, *WORDS, *others]),
+    ]
     for count in (0, 1):
         given = ["nothing"] * count
         shown, version = arguments.outcome(*given, "--help", "--unknown"), arguments.outcome(*given, "--version")
@@ -187,9 +190,9 @@ def test_help_with_each_option_and_the_version_are_printed_whatever_else_is_ther
         assert (version.returncode, version.stdout, version.stderr) == (0, "capture 0\n", "")
 
 
-@pytest.mark.parametrize("length", [4_000, 4_058, 4_059, 4_060, 4_061, 5_000, 12_000])
+@pytest.mark.parametrize("length", [4_000, 4_051, 4_052, 4_053, 4_054, 5_000, 12_000])
 def test_a_line_of_a_long_text_keeps_its_beginning_and_its_end_in_one_write(arguments: Arguments, length: int) -> None:
-    told, room = arguments.refusal("--hold", "1" * length, "eth0=pipe"), LINE_LEN - len("capture: ")
+    told, room = arguments.refusal("--hold", "1" * length, "eth0=pipe"), LINE_LEN - len("bpfrec capture: ")
     assert told.startswith("--hold 111") and told.endswith("111: 0 to 60 seconds\n")
     assert told.count("\n") == 1 and len(told) < room
     assert ("..." in told) == (len("--hold : 0 to 60 seconds\n") + length >= room)

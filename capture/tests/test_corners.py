@@ -1,10 +1,9 @@
-"""The corners of captures (dev/trials/lib/corners.py), by the readers in C and in Python alike."""
+"""The corners of captures (dev/trials/lib/corners.py), by the readers in C."""
 
 from pathlib import Path
 
 import pytest
 from c_units import Script
-from captures import read_by_python
 from corners import CAPTURES, CLASSIC, Read
 from pcapng import section
 
@@ -27,19 +26,15 @@ def read_of(text: str) -> Read:
 
 @pytest.mark.parametrize("order", ["<", ">"], ids=["little", "big"])
 @pytest.mark.parametrize("name", CAPTURES)
-def test_corners_of_captures_are_read_alike(unit: Unit, name: str, order: str) -> None:
+def test_corners_of_captures_are_read(unit: Unit, name: str, order: str) -> None:
     corner, path = CAPTURES[name], unit.path
     path.write_bytes(section(order) + b"".join(corner.blocks(order)))
-    wanted = (corner.frames, corner.fault)
-    assert unit.read(path) == wanted, "in C"
-    assert read_by_python(path) == wanted, "in Python"
+    assert unit.read(path) == (corner.frames, corner.fault)
 
 
 @pytest.mark.parametrize("order", ["<", ">"], ids=["little", "big"])
 @pytest.mark.parametrize("name", CLASSIC)
-def test_corners_of_classic_captures_are_read_alike(unit: Unit, name: str, order: str) -> None:
+def test_corners_of_classic_captures_are_read(unit: Unit, name: str, order: str) -> None:
     corner, path = CLASSIC[name], unit.path
     path.write_bytes(corner.bytes(order))
-    wanted = (corner.frames, corner.fault)
-    assert unit.read(path) == wanted, "in C"
-    assert read_by_python(path) == wanted, "in Python"
+    assert unit.read(path) == (corner.frames, corner.fault)

@@ -97,7 +97,7 @@ def test_the_line_of_the_counts_has_each_of_them_and_waits_in_milliseconds(unit:
     unit.begin()
     unit.ring(QUIET, 3, 4)
     unit.feed(frames=2**40, data=2**50, skipped=5, waited=6 * MILLISECOND + 999_999)
-    assert unit.line() == f"capture: eth0 frames {2**40} bytes {2**50} dropped 3 missed 4 skipped 5 waited 6"
+    assert unit.line() == f"bpfrec capture: eth0 frames {2**40} bytes {2**50} dropped 3 missed 4 skipped 5 waited 6"
 
 
 def test_a_line_comes_once_a_second_and_late_ones_are_not_made_up(unit: Unit) -> None:
@@ -118,7 +118,7 @@ def test_at_the_end_a_line_or_event_says_what_was_lost(unit: Unit, losses: tuple
     unit.feed(skipped=losses[2])
     unit.line()
     assert unit.ask("end") == str(int(bool(lost)))
-    assert unit.new_lines() == ([f"capture: eth0 LOST {lost}"] if lost and not has_events else [])
+    assert unit.new_lines() == ([f"bpfrec capture: eth0 LOST {lost}"] if lost and not has_events else [])
     events = [it for it in unit.events() if "lost_in_all" in it] if has_events else []
     numbers = dict(zip(("dropped", "missed", "skipped"), losses))
     assert events == ([{"lost_in_all": "eth0", **numbers}] if lost and has_events else [])
@@ -232,7 +232,7 @@ def test_events_that_can_not_be_written_are_told_once(unit: Unit) -> None:
     unit.begin(has_events=True)
     for _ in range(3):
         unit.ask("note")
-    assert unit.new_lines() == [f"capture: {said}"]
+    assert unit.new_lines() == [f"bpfrec capture: {said}"]
 
 
 def test_why_an_interface_brings_no_frames_is_noted_once_with_its_counter(unit: Unit) -> None:

@@ -65,7 +65,7 @@ def test_a_run_has_the_scale_of_its_frames(unit: Unit, name: str) -> None:
 @pytest.mark.parametrize("shown", [(0, 37), (37, 0, 37), (37, 5), (37, 0, 0)], ids=str)
 def test_where_interfaces_differ_no_scale_is_known_any_more_and_a_line_says_so_once(unit: Unit, shown: tuple) -> None:
     assert unit.run(*shown) == NOBODY_KNOWS
-    line = "capture: e0: its frames have another time scale than those before, so the facts have none"
+    line = "bpfrec capture: e0: its frames have another time scale than those before, so the facts have none"
     assert unit.new_lines() == [line]
 
 

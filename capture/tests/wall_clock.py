@@ -14,7 +14,7 @@ from support import MILLISECOND, SECOND, nanoseconds
 TICK, TURN = 100, 2**48 * 100
 NOON = 1_764_590_400 * SECOND
 YEAR = 31_557_600 * SECOND
-LINE = re.compile(r"capture: origin (-?\d+)\.(\d{9}) from counter (\d+) on: (.+)")
+LINE = re.compile(r"bpfrec capture: origin (-?\d+)\.(\d{9}) from counter (\d+) on: (.+)")
 
 
 class Line(NamedTuple):

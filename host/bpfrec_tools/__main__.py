@@ -7,12 +7,11 @@ import os
 import sys
 from typing import Callable, Optional
 
-from bpfrec_tools import VERSION, completing, verbs
+from bpfrec_tools import VERSION, verbs
 from bpfrec_tools.cli import printing
 from bpfrec_tools.cli.arguments import name_of, nearest
 from bpfrec_tools.cli.ending import guarded
-
-TOOLS = {name: verb.module for name, verb in verbs.VERBS.items() if verb.module}
+from bpfrec_tools.verbs import TOOLS
 
 
 def run_tool(tool: str, words: Optional[list[str]] = None) -> int:
@@ -48,6 +47,8 @@ def main() -> int:
     if words[:1] == ["help"] and words[1:]:
         words = [words[1], "--help"] if words[1] in TOOLS else words[:2]
     if words[:1] == ["complete"]:
+        from bpfrec_tools import completing
+
         return guarded("bpfrec complete", lambda: completing.run(words[1:]))
     if words and words[0] in TOOLS:
         return run_tool(words[0], words[1:])

@@ -5,15 +5,28 @@ from __future__ import annotations
 import argparse
 import importlib
 import os
+import re
+import subprocess
 from glob import escape, glob
 from typing import Iterable, Optional
 
+from bpfrec.formats.facts import NoFacts, read
+from bpfrec.formats.names import all_of, facts_path
 from bpfrec_tools import verbs
-from bpfrec_tools.cli import printing
+from bpfrec_tools.cli import printing, program
 from bpfrec_tools.cli.arguments import Parser
+from bpfrec_tools.live.capture_options import ORIGIN, VALUED
 from bpfrec_tools.live.control.words import LINES
+from bpfrec_tools.live.flight import flight_at
 
 INTERFACES = "/sys/class/net"
+# The words that an option takes beside those of its parser, and those of capture's, which has none.
+WORDS: dict[str, tuple[str, ...]] = {
+    **{option: words for option, words in VALUED.items() if words},
+    ORIGIN: ("now", "zero", "first"),
+}
+# Of a run so many recordings are looked at, the last.
+MOST_RECORDINGS = 8
 # What the value of an option is, by how its help calls it: the ending of a file, or an interface.
 VALUE_FILES = {"FILE": "*", "KEY": "*", "SIGNERS": "*", "COMMAND": "*", "PATH": "*"}
 
@@ -36,45 +49,75 @@ def interfaces(word: str) -> list[str]:
     return beginning_with(word, os.listdir(INTERFACES)) if os.path.isdir(INTERFACES) else []
 
 
+def channels(named: list[str], word: str) -> list[str]:
+    """The channels that begin so, by their IDs and names: of recordings, by the facts beside them, and of a flight."""
+    found: dict[int, str] = {}
+    for path in (path for it in named for path in all_of(it)[-MOST_RECORDINGS:] if not it.startswith("-")):
+        flight = flight_at(path)
+        found |= {**flight.routes(), **flight.names()} if flight else {}
+        try:
+            known = read(facts_path(path))
+            found |= {**known.interfaces, **known.names}
+        except (OSError, NoFacts):
+            pass
+    return beginning_with(word, [*map(str, found), *found.values()])
+
+
 def action_of(parser: argparse.ArgumentParser, option: str) -> Optional[argparse.Action]:
     """The option of a parser that takes the next word; None where none does."""
     found = next((it for it in parser._actions if option in it.option_strings), None)
     return found if found is not None and found.nargs != 0 else None
 
 
-def values(action: argparse.Action, word: str) -> list[str]:
-    """What an option takes."""
+def values(action: argparse.Action, before: list[str], word: str) -> list[str]:
+    """What an option takes, which is the last of the words before."""
     name = str(action.metavar or "")
-    if action.choices:
-        return beginning_with(word, map(str, action.choices))
-    if "--interface" in action.option_strings:
+    if action.choices or before[-1] in WORDS:
+        return beginning_with(word, map(str, action.choices or WORDS[before[-1]]))
+    if before[-1] == "--interface":
         return interfaces(word)
+    if before[-1] == "--channel":
+        return channels(before[:-1], word)
     return files(word, [VALUE_FILES[name]]) if name in VALUE_FILES else []
 
 
 def of_tool(verb: str, words: list[str]) -> list[str]:
     """What a tool takes as its last word."""
     *before, word = words
-    parser: Parser = importlib.import_module(str(verbs.VERBS[verb].module)).parser()
+    parser: Parser = importlib.import_module(verbs.TOOLS[verb]).parser()
     action = action_of(parser, before[-1]) if before else None
     if action is not None:
-        return values(action, word)
+        return values(action, before, word)
     if word.startswith("-"):
         options = [it for action in parser._actions for it in action.option_strings if it.startswith("--")]
         return beginning_with(word, [*options, "--version"])
-    if verb == "tell" and any(not it.startswith("-") for it in before):
-        return beginning_with(word, LINES) if len(before) == 1 else []
-    offers = files(word, verbs.VERBS[verb].kinds or ["*"])
+    if verb == "tell" and before:
+        lines = beginning_with(word, LINES) if len(before) == 1 else []
+        return channels(before[:1], word) if before[1:] == ["set"] else lines
+    offers = files(word, verbs.VERBS[verb].kinds.split() or ["*"])
     return [*offers, *interfaces(word)] if verb in ("live", "preflight") and before else offers
+
+
+def of_capture(words: list[str]) -> list[str]:
+    """What capture takes as its last word, by its help."""
+    word, before = words[-1], words[-2] if words[1:] else ""
+    if before in WORDS:
+        return beginning_with(word, WORDS[before])
+    if word.startswith("-"):
+        told = subprocess.run([program.capture_path(), "--help"], capture_output=True, text=True, check=False).stdout
+        return beginning_with(word, re.findall("^  (--[a-z-]+)", told, re.MULTILINE))
+    return [*files(word, "*"), *interfaces(word)]
 
 
 def of_program(verb: str, words: list[str]) -> list[str]:
     """What a verb of the proved program takes as its last word."""
-    word, kinds = words[-1], verbs.VERBS[verb].kinds
+    word, kinds = words[-1], verbs.VERBS[verb].kinds.split()
+    if verb == "extract" and len(words) == 2:
+        return beginning_with(word, (it for it in channels(words[:1], word) if it.isdecimal()))
     if word.startswith("-") and word != "-":
         return beginning_with(word, ["--help"])
     place = len(words) - 1
-    return files(word, [kinds[place]]) if place < len(kinds) and kinds[place] else []
+    return files(word, [kinds[place]]) if place < len(kinds) and kinds[place] != "-" else []
 
 
 def offers_for(words: list[str]) -> list[str]:
@@ -87,7 +130,7 @@ def offers_for(words: list[str]) -> list[str]:
     if verb not in verbs.VERBS:
         return []
     found = verbs.VERBS[verb]
-    return of_tool(verb, rest) if found.module else of_program(verb, rest) if found.is_proved else files(rest[-1], "*")
+    return of_tool(verb, rest) if found.is_tool else of_program(verb, rest) if found.is_proved else of_capture(rest)
 
 
 def run(words: list[str]) -> int:

@@ -1,7 +1,5 @@
 """Tries what is read of the lines of bpfrec, by the worked lines of docs/user/formats/ and by others that are near."""
 
-from __future__ import annotations
-
 import pytest
 from bpfrec.formats.answers import Answer, Report, Verdict, file_fault, is_no_listing, is_output_fault
 

@@ -4,8 +4,6 @@ how much a call takes.
 What it should find is taken from the reader of whole recordings (host/bpfrec/formats/reader.py).
 """
 
-from __future__ import annotations
-
 import os
 import random
 import tempfile
@@ -163,7 +161,6 @@ def test_damage_is_passed_as_the_file_grows_byte_by_byte() -> None:
             faults += followed.read_on()
         judge_quietly(f"{name}: one fault", [it.name for it in faults] == [fault.split()[1]], faults)
         judge_quietly(f"{name}: the packets behind it", followed.channels() == [1] * 3, followed.channels())
-    judge("each is passed once what follows is there", True)
 
 
 def test_a_header_within_damage_is_believed_only_where_another_follows() -> None:
@@ -202,7 +199,6 @@ def test_of_an_ended_recording_is_left_out_what_the_reader_leaves_out() -> None:
             pieces = list(reader_of(cast(BinaryIO, file)).pieces())
         judge_quietly(f"byte {at}: faults", faults == [tuple(it) for it in pieces if isinstance(it, Damage)])
         judge_quietly(f"byte {at}: packets", taken == [it.at for it in pieces if isinstance(it, Packet)], taken)
-    judge("as the reader", True)
 
 
 def take_whole(front: Front, data: bytes, taken: list[int]) -> None:
@@ -225,7 +221,6 @@ def test_a_packet_that_is_cut_is_waited_for_until_the_recording_has_ended() -> N
         whole = length // len(one) * len(one)
         wanted = [Fault(1, "Truncated", whole)] if length > whole else []
         judge_quietly(f"{length}: at the end", followed.read_all() == wanted and followed.follower.at == length)
-    judge("at each length", True)
 
 
 def test_what_a_search_had_left_is_judged_at_the_end() -> None:

@@ -1,8 +1,6 @@
 """Tries bpfrec export: SETUP by facts and by the command line, what is refused, and the program that it runs, which
 is played."""
 
-from __future__ import annotations
-
 import os
 import shutil
 import signal
@@ -12,16 +10,11 @@ from typing import Any
 
 import pytest
 import tomllib
-from bpfrec.formats import facts
-from bpfrec_tools.info.as_json import object_of
-from bpfrec_tools.info.contents import read
 from expected_facts import UNKNOWN_SCALE
 from frames import FRAMES, body_of, packet_of
 from reading import SAMPLES
 from setups import CHAPTER11, setup_by, with_facts
-from support import EXPORT, judge, judge_quietly, nanoseconds, outcome
-from whole_file import Origin, Setup, whole_file
-from whole_file_parts import SECOND, faults_of, sample_recording
+from support import EXPORT, judge, judge_quietly, outcome
 
 # Plays the program: what it is given, and how it ends.
 PLAYED = """#!/bin/sh
@@ -60,7 +53,6 @@ def test_without_facts_the_origin_is_given(recording: Path) -> None:
     for text in ("", "1.", ".5", "1.0000000000", "1000000000000", "+1", "1e3", "now", "2025-12-01T12:00:00Z", "1\n"):
         done = outcome(*CHAPTER11, f"--origin={text}", recording, "out")
         judge_quietly(repr(text), done.returncode == 2 and "is no time in seconds since 1970" in done.stderr, done)
-    judge("others are no origin", True)
 
 
 def test_names_are_those_of_the_facts(recording: Path) -> None:
@@ -78,7 +70,6 @@ def test_names_are_those_of_the_facts(recording: Path) -> None:
     for program in (None, 7, "x" * 256):
         with_facts(recording, ONE, program=program)
         judge_quietly(f"no program: {program!r:.9}", "program" not in setup_by(recording))
-    judge("a program that is none is left out", True)
 
 
 def test_network_identifiers_are_those_of_frames(recording: Path) -> None:
@@ -128,46 +119,6 @@ def test_facts_may_be_another_file(recording: Path) -> None:
     judge("standard input", tomllib.loads(done.stdout)["host"] == "one", done)
 
 
-def utc_of(origin: dict[str, Any]) -> int:
-    """The time of an origin of SETUP, in nanoseconds since 1970."""
-    return nanoseconds(*origin["origin"].split(".")) - origin.get("tai_offset", 0) * 10**9
-
-
-def file_by(recording: Path) -> bytes:
-    """The file that the second writer makes by SETUP."""
-    setup = setup_by(recording)
-    held = tuple(Origin(it["counter"], utc_of(it)) for it in setup["origins"])
-    channels = {it["id"]: (it.get("name", "channel"), it.get("net", 0)) for it in setup["channel"]}
-    return bytes(
-        whole_file(recording.read_bytes(), Setup(held, setup["host"], setup["program"], channels=channels)).data
-    )
-
-
-def test_the_file_by_setup_says_what_the_facts_say(recording: Path) -> None:
-    """Host, recorder, names and the times of frames, of a clock that was set and one that ran TAI."""
-    recording.write_bytes(sample_recording())
-    interfaces = [{"interface": "eth0", "channel": 5}, {"interface": "wing", "channel": 9}]
-    lists: list[list[tuple]] = [
-        ONE,
-        [*ONE, ("1764586800.250000123", 3 * SECOND, "-3600.000000000")],
-        [("1764590437.250000001", 0, None, "TAI", 37)],
-    ]
-    for noted in lists:
-        known = facts.read(str(with_facts(recording, noted, interfaces=interfaces)))
-        file = file_by(recording)
-        judge_quietly("the file is right", faults_of(file) == [], faults_of(file))
-        recording.with_name("flight.ch10").write_bytes(file)
-        said = object_of(read(str(recording.with_name("flight.ch10"))), None)
-        judge_quietly(
-            "the host", (said["whole_file"]["host"], said["whole_file"]["program"]) == ("fc1", "bpfrec 0.1.0")
-        )
-        for number, name in ((5, "eth0"), (9, "wing")):
-            found = said["channels"][number]
-            times = [known.time_of(found[f"{it}_counter"]) for it in ("first", "last")]
-            judge_quietly(name, [found["name"], found["first_time"], found["last_time"]] == [name, *times], found)
-    judge("each says the same", True)
-
-
 # ---- what is refused
 
 
@@ -197,29 +148,21 @@ def test_arguments_that_make_no_setup_are_refused(recording: Path) -> None:
     for words in arguments:
         done = by(recording, *words)
         judge_quietly(f"{words}", done.returncode == 2 and done.stderr.startswith("usage: bpfrec export "), done)
-    judge("each is refused", True)
 
 
-@pytest.mark.parametrize(
-    "out, words, option",
-    [
-        ("pcapng", ("--facts", "x"), "--facts"),
-        ("pcapng", ORIGIN, "--origin"),
-        ("pcapng", ("--utc",), "--utc and --tai"),
-        ("pcapng", ("--tai", "0"), "--utc and --tai"),
-        ("pcapng", ("--external",), "--external"),
-        ("pcapng", ("--attribute", "P:1"), "--attribute"),
-        ("ch10", ("--from", "0.01"), "--from"),
-        ("ch10", ("--to", "0.01"), "--to"),
-        ("ch10", ("--channel", "1"), "--channel"),
-    ],
-)
-def test_an_option_of_what_out_does_not_become_is_refused(work: Path, out: str, words: tuple, option: str) -> None:
-    kinds = {"pcapng": "a capture", "ch10": "a whole Chapter 11 file"}
-    done = outcome(EXPORT, *words, "flight.ch11", f"flight.{out}", cwd=work)
-    (other,) = [kinds[it] for it in kinds if it != out]
-    line = f"{option} is for {other}, and OUT is {kinds[out]}\n"
-    judge(" ".join(words), done.returncode == 2 and done.stderr.endswith(line) and not done.stdout, done)
+OF_A_WHOLE_FILE = ["--facts=x", "=".join(ORIGIN), "--utc", "--tai=0", "--external", "--attribute=P:1", "--gaps"]
+
+
+@pytest.mark.parametrize("word", [*OF_A_WHOLE_FILE, "--from=0.01", "--to=0.01", "--channel=1"])
+def test_an_option_of_what_out_does_not_become_is_refused(work: Path, word: str) -> None:
+    """With what to do instead."""
+    option = {"--utc": "--utc and --tai", "--tai": "--utc and --tai"}.get(word.split("=")[0], word.split("=")[0])
+    whole, slices = "a whole Chapter 11 file", ", which has all: a slice is OUT.pcapng"
+    is_whole = word in OF_A_WHOLE_FILE
+    done = outcome(EXPORT, word, "flight.ch11", f"flight.{'pcapng' if is_whole else 'ch10'}", cwd=work)
+    what = f"{whole}, and OUT is a capture" if is_whole else f"a capture, and OUT is {whole}{slices}"
+    line = f"bpfrec export: error: {option} is for {what}\n"
+    judge(word, done.returncode == 2 and done.stderr.endswith(line) and not done.stdout, done)
 
 
 def test_facts_that_say_no_times_are_refused(recording: Path) -> None:
@@ -235,16 +178,16 @@ def test_facts_that_say_no_times_are_refused(recording: Path) -> None:
     beside.mkdir()
     refused(recording, 3, "bpfrec export: flight.ch11.json: Is a directory\n", "flight.ch11", "out")
     refused(recording, 3, "bpfrec export: none: No such file or directory\n", "--facts", "none", "flight.ch11", "out")
-    judge("each is refused", True)
 
 
 def test_recordings_that_are_no_files_are_refused(recording: Path) -> None:
-    refused(recording, 3, "file none: No such file or directory\n", *ORIGIN, "none", "out")
-    refused(recording, 3, "file .: Is a directory\n", *ORIGIN, ".", "out")
+    refused(recording, 3, "bpfrec export: none: No such file or directory\n", *ORIGIN, "none", "out")
+    refused(recording, 3, "bpfrec export: .: Is a directory\n", *ORIGIN, ".", "out")
     # It waits for no writer.
     os.mkfifo(recording.with_name("pipe"))
-    refused(recording, 3, "file pipe: it is no regular file, which could be read twice\n", *ORIGIN, "pipe", "out")
-    judge("each is refused", True)
+    refused(
+        recording, 3, "bpfrec export: pipe: it is no regular file, which could be read twice\n", *ORIGIN, "pipe", "out"
+    )
 
 
 def test_an_output_that_is_an_input_is_refused(recording: Path) -> None:
@@ -265,7 +208,6 @@ def test_an_output_that_is_an_input_is_refused(recording: Path) -> None:
         line = f"bpfrec export: -: it is {path.name} itself\n"
         judge_quietly("standard output", (done.returncode, done.stderr) == (3, line), done)
         judge_quietly("the input stays", path.read_bytes() == before)
-    judge("each is refused", True)
 
 
 def test_an_out_that_has_bytes_is_refused_without_force(recording: Path) -> None:

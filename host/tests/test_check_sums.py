@@ -1,10 +1,7 @@
 """Tries the sums of bpfrec check: bodies of all lengths around its pieces, changed bytes, packets far behind, and its
 memory."""
 
-from __future__ import annotations
-
 import random
-import re
 import resource
 import subprocess
 from pathlib import Path
@@ -13,7 +10,7 @@ import pytest
 from frames import FRAMES, HEADER_LENGTH, header_of, packet_of, sum_of
 from support import judge, judge_quietly, sums
 from whole_file import TIME
-from whole_file_parts import bytes_of, parts_of, place_of, sample, without
+from whole_file_parts import bytes_of, parts_of, sample, without
 
 # How many bytes check reads at once, and the room in which it is tried.
 PIECE, ROOM = 1 << 16, 96 << 20
@@ -50,11 +47,8 @@ def test_sums_hold_at_both_sides_of_what_is_read_at_once(work: Path, length: int
         changed[HEADER_LENGTH + at] ^= 0x80
         done = checked(work, ahead + changed + packet(b"behind.."))
         line = f"{len(ahead)} data checksum "
-        judge_quietly(
-            f"byte {at} of {length}",
-            done.returncode == 1 and done.stdout.startswith(line) and " wrong 1\n" in done.stdout,
-            done,
-        )
+        holds = done.returncode == 1 and done.stdout.startswith(line) and " wrong 1\n" in done.stdout
+        judge_quietly(f"byte {at} of {length}", holds, done)
 
 
 @pytest.mark.parametrize("at", range(HEADER_LENGTH))
@@ -99,25 +93,6 @@ def test_a_whole_file_is_known_by_its_setup_record(work: Path) -> None:
     judge("the last line", done.stdout.endswith("packets 22 data checksums 22 without 0 wrong 5\n"), done)
 
 
-def test_sums_of_a_whole_file_are_named_as_those_of_a_recording(work: Path) -> None:
-    whole, at = bytearray(sample()), place_of(parts_of(sample()), FRAMES, 1)
-    whole[at + 100] ^= 1
-    done = checked(work, whole)
-    judge(
-        "a data checksum",
-        re.fullmatch(
-            rf"{at} data checksum [0-9a-f]{{8}}, the words add up to [0-9a-f]{{8}}\npackets 23 .* wrong 1\n",
-            done.stdout,
-        )
-        and done.returncode == 1,
-        done,
-    )
-    whole[at + 8] ^= 1
-    done = checked(work, whole)
-    line = rf"{at} header checksum [0-9a-f]{{4}}, the words add up to [0-9a-f]{{4}}\n"
-    judge("a header checksum", done.returncode == 1 and re.match(line, done.stdout), done)
-
-
 def test_a_setup_record_that_is_not_there_takes_no_memory(work: Path) -> None:
     """One of the longest that may be, of which the file has few bytes."""
     head = header_of(0, (134_217_728, 134_217_700), 0, 0x01, 0, True)
@@ -131,4 +106,3 @@ def test_without_a_setup_record_it_is_a_recording(work: Path) -> None:
         done = checked(work, other)
         line = "packets 1 data checksums 1 without 0 wrong 0\n"
         judge_quietly("a recording", (done.returncode, done.stdout) == (0, line), done)
-    judge("others are recordings", True)

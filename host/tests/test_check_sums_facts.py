@@ -1,8 +1,6 @@
 """Tries what bpfrec check judges beside sums: what facts claim, recordings that follow one another, and who
 signed."""
 
-from __future__ import annotations
-
 import hashlib
 import json
 import os
@@ -189,7 +187,7 @@ def test_a_recording_that_is_given_twice_is_refused(work: Path) -> None:
         done = sums(path, again)
         judge(f"{again}", done.returncode == 1 and f"check: {again}: it is given twice" in done.stderr, done)
     done = sums(work / "none")
-    judge("missing", (done.returncode, done.stderr) == (3, f"file {work}/none: No such file or directory\n"), done)
+    judge("no", (done.returncode, done.stderr) == (3, f"bpfrec check: {work}/none: No such file or directory\n"), done)
 
 
 def test_a_name_that_is_no_utf8_is_that_of_its_facts(work: Path) -> None:

@@ -1,22 +1,18 @@
 """Tries the check of whole files: what it prints of a file, and the times of frames by the clocks of their recordings."""
 
-from __future__ import annotations
-
 import datetime
 import hashlib
 import random
 from fractions import Fraction
 
 import pytest
-from drawn_recording import DrawnRecording
 from reading import SAMPLES
 from second_opinion import opinion_of
 from support import judge, judge_quietly
-from whole_file import TIME, Origin, Refused, Setup, whole_file
+from whole_file import TIME, Origin, Setup, whole_file
 from whole_file_clock import Rule, rules_of
 from whole_file_parts import ORIGIN, SECOND, bytes_of, parts_of, recorded, sample, without
 
-DAY = 86_400
 # The sum of the file of the recording of 248 bytes with this origin.
 ONE_SUM = "bc7788fb6bd5a9b95dc6af282ea8a3d1a4b274476766c991a927b7373ea32e74"
 
@@ -71,7 +67,6 @@ def test_frames_have_the_times_of_their_clock(seed: int) -> None:
         for (text, _), (counter, _, _) in zip(found, frames):
             behind = time_due(rules, counter) - time_read(text)
             judge_quietly(f"the time of {counter}", 0 <= behind < 100, (text, behind))
-    judge("all have their times", True)
 
 
 def time_due(rules: list[Rule], counter: int) -> int:
@@ -84,36 +79,3 @@ def time_read(text: str) -> Fraction:
     moment, units = text[:-1].split(".")
     whole = datetime.datetime.fromisoformat(moment).replace(tzinfo=datetime.timezone.utc)
     return Fraction((int(whole.timestamp()) * SECOND + int(units)) * 100)
-
-
-# ---- what the second writer refuses of a recording
-
-
-def refusal(made: DrawnRecording, *origins: Origin) -> str:
-    """How a recording is refused."""
-    try:
-        whole_file(bytes(made.data), Setup(origins))
-    except Refused as fault:
-        return str(fault)
-    return ""
-
-
-def test_recordings_that_have_no_such_file_are_refused() -> None:
-    """Each refusal with the place of its packet."""
-    gap, disorder, other = DrawnRecording(), DrawnRecording(), DrawnRecording()
-    gap.add_frames(1, [(0, 0, 60)])
-    place = len(gap.data)
-    gap.add_frames(1, [(7_000_000_000_000, 0, 60)])
-    for counters in ([20 * SECOND], [10 * SECOND - 1]):
-        disorder.add_frames(1, [(it, 0, 60) for it in counters])
-    other.add_frames(1, [(0, 0, 60)])
-    other.add_other(7)
-    year_4000 = datetime.date(3999, 12, 31).toordinal() + 1 - datetime.date(1970, 1, 1).toordinal()
-    now, late = Origin(0, ORIGIN), Origin(0, year_4000 * DAY * 10**9)
-    judge("a gap", refusal(gap, now) == f"refused 3 Gap {place}")
-    judge("disorder", refusal(disorder, now) == f"refused 2 Disorder {place}")
-    judge("another packet", refusal(other, now) == f"refused 1 Other {place}")
-    judge("the year 4000", refusal(gap, late) == "refused 5 Year 0")
-    last = DrawnRecording()
-    last.add_frames(1, [(2**48 - 1, 0, 60)])
-    judge("no time packet has a tick", refusal(last, now, Origin(2**48 - 1, ORIGIN + 50)) == "refused 4 Origin 0")

@@ -53,7 +53,6 @@ STATES: list[tuple[Any, str]] = [
 def test_a_state_is_what_facts_say_of_it() -> None:
     for told, wanted in STATES:
         judge_quietly(f"{told}: {state_in(told).text()}", state_in(told).text() == wanted)
-    judge("each state has its text", True)
 
 
 def test_a_clock_is_worse_where_it_is_unsynchronised_unknown_or_off_by_more() -> None:
@@ -68,7 +67,6 @@ def test_a_clock_is_worse_where_it_is_unsynchronised_unknown_or_off_by_more() ->
     ]
     for state, most, wanted in table:
         judge_quietly(f"{state} {most}: {state.fault(most)}", state.fault(most) == wanted)
-    judge("each is as it has to be", True)
 
 
 def test_an_error_of_a_clock_is_taken_with_its_unit() -> None:
@@ -78,7 +76,6 @@ def test_an_error_of_a_clock_is_taken_with_its_unit() -> None:
     for word in ("", "0", "0.0000001", "16.1", "17", "-1", "1m", "1e-3", ".5", "1 s", "ms", "١", "nan"):
         with pytest.raises(argparse.ArgumentTypeError):
             arguments.clock_error(word)
-    judge("and nothing else is one", True)
 
 
 LONG, INT = ctypes.c_long, ctypes.c_int
@@ -172,9 +169,8 @@ def test_a_watch_says_the_clock_once_and_at_each_change(played: dict, signals: S
     judge("another error that is allowed is no news", lines == [first] and len(seen) == 6, lines)
     played["kernel"] = ClockState(True, 0.02)
     looked(loop, watch, now + 6)
-    judge(
-        "one that isn't is", lines[1:] == [f"{first[:-10]}0.020000 s: --require-clock: {seen[-1].fault(0.01)}"], lines
-    )
+    holds = lines[1:] == [f"{first[:-10]}0.020000 s: --require-clock: {seen[-1].fault(0.01)}"]
+    judge("one that isn't is", holds, lines)
     played["kernel"] = ClockState(False, 16.0)
     looked(loop, watch, now + 7)
     judge("and so is a clock that nobody holds", lines[2].endswith("--require-clock: the clock is not synchronised"))

@@ -1,7 +1,5 @@
 """Tries which recordings bpfrec follow takes for those of a run, by their names and the facts beside them."""
 
-from __future__ import annotations
-
 import fcntl
 import json
 import os

@@ -1,13 +1,12 @@
 """Tries which module imports which: the library at the bottom, the tools above it, and the second opinion apart."""
 
-from __future__ import annotations
-
 import ast
 import subprocess
 import sys
 from collections.abc import Iterator
 from pathlib import Path
 
+import pytest
 from support import ROOT, judge
 
 HOST = ROOT / "host"
@@ -15,7 +14,11 @@ HOST = ROOT / "host"
 OF_TOOLS = {"argparse", "subprocess", "socket", "signal", "select", "threading", "tempfile", "shutil"}
 # How many modules of the library are loaded at most where it is used.
 MOST_MODULES = 25
-SERVED = "import sys; sys.path.insert(0, sys.argv[1]); import bpfrec_tools.{}.command; print(*sys.modules)"
+SERVED = "import sys; sys.path.insert(0, sys.argv[1]); import bpfrec_tools.{}; print(*sys.modules)"
+CALLED = """import atexit, sys; sys.path.insert(0, sys.argv[1]); atexit.register(lambda: print(*sys.modules))
+from bpfrec_tools.__main__ import run_tool; run_tool(*sys.argv[2:3], sys.argv[3:])"""
+# What takes long to load, and what only a run or its judgement has a use for.
+LATE = {"subprocess", "dataclasses", "datetime", "tempfile", "bpfrec_tools.live.beginning", "bpfrec_tools.live.ahead"}
 LOADED = "import sys; sys.path.insert(0, sys.argv[1]); import bpfrec; bpfrec.open; print(*sys.modules)"
 
 
@@ -94,7 +97,16 @@ def test_few_modules_are_loaded_to_read_a_recording() -> None:
 
 
 def test_live_imports_a_server_where_the_status_is_served_alone() -> None:
-    for tool in ("live", "preflight"):
-        words = [sys.executable, "-c", SERVED.format(tool), str(HOST)]
+    for module in ("live.beginning", "preflight.judging"):
+        words = [sys.executable, "-c", SERVED.format(module), str(HOST)]
         found = subprocess.run(words, capture_output=True, text=True, check=True).stdout.split()
-        judge(tool, "bpfrec_tools.live.arguments" in found and "http.server" not in found, found)
+        judge(module, "bpfrec_tools.live.arguments" in found and "http.server" not in found, found)
+
+
+@pytest.mark.parametrize("tool", ["live", "preflight"])
+@pytest.mark.parametrize("word", ["--help", "--nonsense"])
+def test_help_and_a_refusal_load_little(tool: str, word: str) -> None:
+    """So they take a tenth of a second, also without byte code."""
+    words = [sys.executable, "-I", "-B", "-c", CALLED, str(HOST), tool, word]
+    found = subprocess.run(words, capture_output=True, text=True, check=False).stdout.splitlines()[-1].split()
+    judge(f"{tool} {word}", f"bpfrec_tools.{tool}.command" in found and not LATE & {*found}, LATE & {*found})

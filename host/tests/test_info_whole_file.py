@@ -1,7 +1,5 @@
 """Tries what bpfrec info says of whole Chapter 11 files: host, program, names and times by the file itself."""
 
-from __future__ import annotations
-
 import json
 import random
 from pathlib import Path
@@ -83,7 +81,6 @@ def test_channels_have_their_names_and_times(whole: Path) -> None:
     page = "".join(page_parts("flight.ch10", read(str(whole)), AUDIT))
     for part in ("Channel 9: wing", "2025-12-01T12:00:00.2509001Z", "bench 3", "by the time packets of the file"):
         judge_quietly(f"the page has {part}", part in page)
-    judge("text and page have them", True)
 
 
 def test_json_has_the_same(whole: Path) -> None:
@@ -172,7 +169,6 @@ def test_hostile_files_are_read_to_their_end(whole: Path) -> None:
         whole.write_bytes(data)
         said_of(whole)
         text_of(whole)
-    judge("none ends by a fault", True)
 
 
 def test_a_page_and_a_recording_may_be_standard_streams(whole: Path, monkeypatch: pytest.MonkeyPatch) -> None:

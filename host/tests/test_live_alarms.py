@@ -1,7 +1,5 @@
 """Tries alarms that go out: which have begun and ended, the program that is run for them, and priorities of lines."""
 
-from __future__ import annotations
-
 import os
 import signal
 import time
@@ -177,10 +175,7 @@ def test_a_program_that_fails_or_hangs_is_said_and_the_next_is_run(
 def test_a_program_that_is_gone_is_said(work: Path, made: Callable[..., Run]) -> None:
     run = made(work / "missing")
     run.command.take(AlarmChange(True, DISK))
-    judge(
-        "by its name",
-        run.lines == [f"bpfrec live: --on-alarm: {work}/missing can't be started: No such file or directory"],
-    )
+    judge("it", run.lines == [f"bpfrec live: --on-alarm: {work}/missing can't be started: No such file or directory"])
     judge("and nothing waits for it", run.is_idle())
 
 
@@ -241,7 +236,6 @@ def test_a_command_is_taken_apart_as_a_shell_does_it() -> None:
     }.items():
         with pytest.raises(Exception, match=f"^{why}$"):
             arguments.command_words(text)
-    judge("and no shell is meant", True)
 
 
 # ---- priorities
@@ -258,9 +252,9 @@ PRIORITIES = {
         "bpfrec live: --every and --size need an interface",
         "bpfrec live: eth0: no recorder reads its frames, which wait for the next recording",
         "bpfrec live: capture has ended, and its interfaces with it",
-        "capture: eth0: no permission to capture: be root, or have a group capture",
-        "capture: eth0: the interface is gone",
-        "capture: events can't be written: the facts beside the recording lack losses",
+        "bpfrec capture: eth0: no permission to capture: be root, or have a group capture",
+        "bpfrec capture: eth0: the interface is gone",
+        "bpfrec capture: events can't be written: the facts beside the recording lack losses",
         "file flight.ch11",
         "file -",
         "SourceFault Device",
@@ -277,12 +271,12 @@ PRIORITIES = {
         "bpfrec live: flight.ch11 was moved to other.ch11: it is recorded on there",
         "bpfrec live: publish [ff02::1%eth0]:50000: no route: datagrams lost: 5",
         "bpfrec live: publish 239.1.2.3:50000: ended by signal 9, and begins again in 1 s",
-        "capture: eth0 LOST 1 dropped 0 skipped",
-        "capture: eth0: it is down, and is recorded on once it is up",
-        "capture: eth0: it has no carrier, and is recorded on once it has one",
-        "capture: it may write all files that its user may: the kernel has no Landlock",
-        "capture: eth0: the interface is gone, and is taken again once it is back",
-        "capture: origin 1764586800.250000123 from counter 7 on: the clock was set by -3600.000000000 s",
+        "bpfrec capture: eth0 LOST 1 dropped 0 skipped",
+        "bpfrec capture: eth0: it is down, and is recorded on once it is up",
+        "bpfrec capture: eth0: it has no carrier, and is recorded on once it has one",
+        "bpfrec capture: it may write all files that its user may: the kernel has no Landlock",
+        "bpfrec capture: eth0: the interface is gone, and is taken again once it is back",
+        "bpfrec capture: origin 1764586800.250000123 from counter 7 on: the clock was set by -3600.000000000 s",
         "refused 1 Empty",
     ],
     Priority.NOTE: [
@@ -294,13 +288,13 @@ PRIORITIES = {
         "bpfrec live: clock: synchronised by chrony (2001:db8::1), off by at most 0.000500 s",
         "bpfrec live: the next recording begins",
         "bpfrec live: flight_00001.ch11 was removed: --keep 3",
-        "capture: eth0 frames 1 bytes 64 dropped 0 missed 0 skipped 0 waited 0",
-        "capture: origin 1764590400.250000000",
-        "capture: origin 1764590400.250000000 from counter 0 on: counters have begun at 0 again",
-        "capture: eth0: it is up again",
-        "capture: eth0: it is back",
-        "capture: eth0 buffer 64 MiB",
-        "capture: eth0 clock host: UTC",
+        "bpfrec capture: eth0 frames 1 bytes 64 dropped 0 missed 0 skipped 0 waited 0",
+        "bpfrec capture: origin 1764590400.250000000",
+        "bpfrec capture: origin 1764590400.250000000 from counter 0 on: counters have begun at 0 again",
+        "bpfrec capture: eth0: it is up again",
+        "bpfrec capture: eth0: it is back",
+        "bpfrec capture: eth0 buffer 64 MiB",
+        "bpfrec capture: eth0 clock host: UTC",
         "installed 7 1 12",
         "status: http://127.0.0.1:8080/",
         "stop                ends the recording, as Ctrl-C does",
@@ -338,4 +332,3 @@ def test_lines_have_priorities_where_the_journal_reads_them_and_nowhere_else(
                 else "bpfrec live: clock: not synchronised\none\ntwo\n"
             )
             judge_quietly(f"JOURNAL_STREAM={name}: {path.read_text()}", path.read_text() == wanted)
-    judge("by the device and the inode", True)

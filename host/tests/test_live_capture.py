@@ -249,5 +249,5 @@ def test_last_counts_are_printed_of_a_capture_that_was_killed_before_it_did(opti
     assert capture.counts
     pipe = Written(capture.counts, loop)
     pipe.write(f"{COUNTS.replace('1', '9')}\n{COUNTS}\n".encode())
-    line = "capture: e0 frames 1 bytes 2 dropped 3 missed 4 skipped 5 waited 6"
+    line = "bpfrec capture: e0 frames 1 bytes 2 dropped 3 missed 4 skipped 5 waited 6"
     assert capture.end(status) == ([line] if options and status > KILLED else [])

@@ -1,7 +1,5 @@
 """Tries hashes of recordings that have ended, without a run: what is hashed, in which facts, and what is signed."""
 
-from __future__ import annotations
-
 import contextlib
 import hashlib
 import json

@@ -1,8 +1,6 @@
 """Tries in which order recordings are hashed, what becomes of those that have to go, of signatures that fail, and what
 the end of a run waits for."""
 
-from __future__ import annotations
-
 import hashlib
 import os
 import threading

@@ -1,7 +1,5 @@
 """Tries how lines are taken: one by one, within bounds, whatever they say, and how the terminal learns of them."""
 
-from __future__ import annotations
-
 import os
 import time
 from collections.abc import Callable, Iterator
@@ -40,7 +38,7 @@ class Lines:
         self.recorder = SimpleNamespace(
             lines=Pipe(), recording=SimpleNamespace(has_failed=False, was_killed=False, is_used_up=False)
         )
-        given = SimpleNamespace(control=None, is_prefiltered=False, is_rotating=lambda: False)
+        given = SimpleNamespace(socket=lambda: None, is_prefiltered=False, is_rotating=lambda: False)
         terminal = SimpleNamespace(is_of=lambda _: True, note_typed=lambda: self.said.append("typed"))
         mark: Callable[..., None] = lambda text, _: self.said.append(f"mark {text.decode()}")
         ports = ControlPorts(self.stop, self.stop, self.report, mark, self.said.append, cast(Terminal, terminal))
@@ -100,11 +98,7 @@ def test_the_terminal_is_told_of_all_lines_that_it_shows_before_one_is_answered(
 def test_a_fault_in_what_takes_a_line_is_said_and_ends_nothing(lines: Lines) -> None:
     lines.come(b"status\nmark a\n")
     lines.turn()
-    judge(
-        "it goes on",
-        lines.said[2:] == ["bpfrec live: status: ZeroDivisionError: a fault of ours", "mark a"],
-        lines.said,
-    )
+    judge("on", lines.said[2:] == ["bpfrec live: status: ZeroDivisionError: a fault of ours", "mark a"], lines.said)
 
 
 REASONS = {

@@ -1,21 +1,13 @@
 """Tries all that the machine of bpfrec live does and says in a run, in its order: none is left out, and none is more."""
 
-from __future__ import annotations
-
 import pytest
-from live_events import FILES, ROTATING, SINGLE, disk_is_full, recorder_dies, while_going, while_handing_over
+from live_events import FILES, ROTATING, SINGLE, at_once, begun, disk_is_full, recorder_dies, while_handing_over
 from live_world import Plan, World
 from support import judge
 
 # What begins each run that has interfaces, and how the second recording takes over.
 BEGIN = "start_recorder 1, start_capture 1, create 1, point_to 1"
 SECOND = "create 2, start_recorder 2, end_lines 1, point_to 2, switch_capture 2"
-
-
-def begun(plan: Plan) -> World:
-    world = World(plan)
-    world.machine.begin(world.time)
-    return world
 
 
 def end(world: World) -> None:
@@ -26,21 +18,19 @@ def end(world: World) -> None:
 
 def single() -> World:
     world = begun(SINGLE)
-    while_going(world)
     end(world)
     return world
 
 
 def of_feeds() -> World:
-    world = begun(FILES)
+    world = begun(FILES, at_once)
     world.settle()
     end(world)
     return world
 
 
 def handed_over() -> World:
-    world = begun(ROTATING)
-    while_handing_over(world)
+    world = begun(ROTATING, while_handing_over)
     world.settle()
     end(world)
     return world
@@ -49,7 +39,6 @@ def handed_over() -> World:
 def without_a_next() -> World:
     """The next recorder can't be started once, and is then."""
     world = begun(ROTATING)
-    while_going(world)
     world.can_start = False
     world.wait(10)
     world.can_start = True
@@ -59,7 +48,6 @@ def without_a_next() -> World:
 
 def full_disk(plan: Plan) -> World:
     world = begun(plan)
-    while_going(world)
     disk_is_full(world)
     world.settle()
     world.wait(1)
@@ -70,7 +58,6 @@ def full_disk(plan: Plan) -> World:
 
 def killed_recorder() -> World:
     world = begun(ROTATING)
-    while_going(world)
     recorder_dies(world)
     world.wait(0)
     world.settle()
@@ -81,7 +68,6 @@ def killed_recorder() -> World:
 def capture_that_ends_alone() -> World:
     """Nobody told it to."""
     world = begun(ROTATING)
-    while_going(world)
     world.end_capture(0)
     world.finish()
     return world
@@ -89,7 +75,6 @@ def capture_that_ends_alone() -> World:
 
 def dead_capture() -> World:
     world = begun(SINGLE)
-    while_going(world)
     world.end_capture(137)
     world.finish()
     return world
@@ -97,7 +82,7 @@ def dead_capture() -> World:
 
 def dead_capture_at_the_start() -> World:
     """The recorder waits for its pipes, which are opened in the capture's place."""
-    world = begun(SINGLE)
+    world = begun(SINGLE, at_once)
     world.current().pipes_left = 1
     world.end_capture(137)
     world.finish()
@@ -105,14 +90,14 @@ def dead_capture_at_the_start() -> World:
 
 
 def refused_capture() -> World:
-    world = begun(SINGLE)
+    world = begun(SINGLE, at_once)
     world.end_capture(3)
     world.finish()
     return world
 
 
 def refused_out() -> World:
-    world = begun(SINGLE)
+    world = begun(SINGLE, at_once)
     world.has_space = False
     world.ready()
     world.finish()
@@ -122,7 +107,6 @@ def refused_out() -> World:
 def hurried() -> World:
     """Nothing ends by itself, and a second signal comes two seconds later."""
     world = begun(SINGLE)
-    while_going(world)
     world.is_hanging = True
     world.machine.told_to_end(world.time)
     world.settle()
@@ -135,7 +119,6 @@ def hurried() -> World:
 def unprinted() -> World:
     """The report can't be printed."""
     world = begun(SINGLE)
-    while_going(world)
     world.machine.printing_failed()
     end(world)
     return world
@@ -154,11 +137,7 @@ RUNS = {
         "create 1, start_recorder 1, end_lines 1, end_lines 1, print_report 1, audit 1, conclude 1",
         0,
     ),
-    "handed_over": (
-        handed_over,
-        f"{BEGIN}, {SECOND}, print_report 1, audit 1, conclude 1, {LAST_OF_TWO}",
-        0,
-    ),
+    "handed_over": (handed_over, f"{BEGIN}, {SECOND}, print_report 1, audit 1, conclude 1, {LAST_OF_TWO}", 0),
     "without_a_next": (without_a_next, f"{BEGIN}, create 2, start_recorder 2, {LAST}", 0),
     "full_disk": (
         lambda: full_disk(ROTATING),

@@ -1,17 +1,13 @@
 """Tries the machine of bpfrec live by itself, without a process: full and failing disks, and killed recorders."""
 
-from __future__ import annotations
-
-from live_events import ROTATING, SINGLE, disk_fails, recorder_dies, while_going, while_handing_over
+from live_events import ROTATING, SINGLE, begun, disk_fails, recorder_dies, while_handing_over
 from live_world import KILLED, Phase, World
 from support import judge, judge_quietly, present
 
 
 def test_after_a_full_disk_the_next_recording_waits_for_room() -> None:
     """After a full disk the next recording waits for room, and longer after each failure."""
-    world = World(ROTATING)
-    world.machine.begin(0)
-    while_going(world)
+    world = begun(ROTATING)
     for turn in range(3):
         played = world.current()
         world.has_space = False
@@ -27,16 +23,13 @@ def test_after_a_full_disk_the_next_recording_waits_for_room() -> None:
         world.settle()
         judge_quietly("but then", world.current() is not played and world.current().recording.phase is Phase.GOING)
         judge_quietly("the failed one is told", played.concluded == [1] and played.audits == 0)
-    judge("recordings go on once there is room, and later each time", True)
     world.wait(10)
     world.settle()
     judge("a recording that is handed over ends the row", world.machine.retries.failures == 0)
 
 
 def test_after_a_disk_that_fails_to_write_back_recordings_follow_later_and_later() -> None:
-    world = World(ROTATING._replace(every=1_000))
-    world.machine.begin(0)
-    while_going(world)
+    world = begun(ROTATING._replace(every=1_000))
     for turn in range(9):
         played = world.current()
         for _ in range(2):
@@ -46,9 +39,8 @@ def test_after_a_disk_that_fails_to_write_back_recordings_follow_later_and_later
         judge_quietly("nothing follows at once", world.current() is played)
         world.wait(0.02)
         world.settle()
-        judge_quietly(
-            "but then", world.current() is not played and played.concluded == [0] and played.audits == 1, turn
-        )
+        holds = world.current() is not played and played.concluded == [0] and played.audits == 1
+        judge_quietly("but then", holds, turn)
     judge("each is told once", len(world.said) == len(set(world.said)) == 9, world.said)
     world.wait(1_000)
     world.settle()
@@ -59,9 +51,7 @@ def test_after_a_disk_that_fails_to_write_back_recordings_follow_later_and_later
 
 
 def test_a_recording_that_cannot_be_forced_goes_on_where_no_other_can_begin() -> None:
-    world = World(ROTATING._replace(every=1_000))
-    world.machine.begin(0)
-    while_going(world)
+    world = begun(ROTATING._replace(every=1_000))
     disk_fails(world)
     world.can_follow = False
     for _ in range(100):
@@ -71,9 +61,7 @@ def test_a_recording_that_cannot_be_forced_goes_on_where_no_other_can_begin() ->
 
 
 def test_a_recording_that_its_recorder_could_not_force_is_audited_all_the_same() -> None:
-    world = World(SINGLE)
-    world.machine.begin(0)
-    while_going(world)
+    world = begun(SINGLE)
     disk_fails(world)
     played = world.current()
     world.end_recorder(played, 3)
@@ -83,9 +71,7 @@ def test_a_recording_that_its_recorder_could_not_force_is_audited_all_the_same()
 
 
 def test_a_recording_that_cannot_be_forced_goes_on_where_none_follows() -> None:
-    world = World(SINGLE)
-    world.machine.begin(0)
-    while_going(world)
+    world = begun(SINGLE)
     disk_fails(world)
     world.wait(100)
     judge("nothing ends", world.machine.deadline(world.time) is None and world.current().is_running)
@@ -95,9 +81,7 @@ def test_a_recording_that_cannot_be_forced_goes_on_where_none_follows() -> None:
 
 
 def test_a_killed_recorder_is_followed_by_the_next_recording() -> None:
-    world = World(ROTATING)
-    world.machine.begin(0)
-    while_going(world)
+    world = begun(ROTATING)
     first = world.current()
     recorder_dies(world)
     judge("the capture keeps the frames", world.held == 1 and world.asked_to_end == 0)
@@ -130,9 +114,7 @@ def killed(world: World, count: int, pause: float) -> None:
 
 
 def test_ten_killed_recorders_in_a_row_within_a_minute_end_the_run() -> None:
-    world = World(ROTATING._replace(every=1_000))
-    world.machine.begin(0)
-    while_going(world)
+    world = begun(ROTATING._replace(every=1_000))
     killed(world, 9, 1)
     judge("nine don't", world.machine.current.number == 10 and world.is_capturing)
     killed(world, 1, 1)
@@ -144,17 +126,13 @@ def test_ten_killed_recorders_in_a_row_within_a_minute_end_the_run() -> None:
 
 
 def test_ten_killed_recorders_in_more_than_a_minute_end_nothing() -> None:
-    world = World(ROTATING._replace(every=1_000))
-    world.machine.begin(0)
-    while_going(world)
+    world = begun(ROTATING._replace(every=1_000))
     killed(world, 30, 6)
     judge("recordings go on", world.machine.current.number == 31 and world.is_capturing, world.said)
 
 
 def test_a_recording_that_is_handed_over_well_ends_a_row_of_kills() -> None:
-    world = World(ROTATING._replace(every=3))
-    world.machine.begin(0)
-    while_going(world)
+    world = begun(ROTATING._replace(every=3))
     for _ in range(30):
         killed(world, 1, 0.5)
         world.wait(3)
@@ -164,9 +142,7 @@ def test_a_recording_that_is_handed_over_well_ends_a_row_of_kills() -> None:
 
 def test_a_recorder_that_is_killed_while_it_opens_is_followed_too() -> None:
     """The one before goes on until another one takes its frames."""
-    world = World(ROTATING)
-    world.machine.begin(0)
-    while_handing_over(world)
+    world = begun(ROTATING, while_handing_over)
     first, second = world.played[1], world.current()
     world.consequences.clear()
     recorder_dies(world)

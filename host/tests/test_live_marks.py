@@ -1,7 +1,5 @@
 """Tries marks without a recording: which line is one, the counter that it gets, and which recording has it."""
 
-from __future__ import annotations
-
 import time
 from pathlib import Path
 from types import SimpleNamespace
@@ -64,14 +62,14 @@ class World:
         self.marks = Marks(cast(Events, self.events), True, lambda *_: None, self.said.append)
 
     def recording(self, number: int, has_facts: bool = True) -> Any:
-        made = self.work / str(number)
-        made.mkdir()
+        folder = self.work / str(number)
+        folder.mkdir()
         about = SimpleNamespace(number=number, out=f"f_{number}")
         keeper = object() if has_facts else None
-        return SimpleNamespace(recording=about, about=about, made=made, keeper=keeper, is_created=True)
+        return SimpleNamespace(recording=about, about=about, folder=folder, keeper=keeper, is_created=True)
 
     def texts(self, recording: Recorder) -> list[str]:
-        return [it["text"] for it in marks_of(recording.made, [])]
+        return [it["text"] for it in marks_of(recording.folder, [])]
 
 
 def test_a_mark_is_of_the_recording_that_goes_on(work: Path) -> None:
@@ -93,9 +91,8 @@ def test_a_mark_is_of_the_recording_that_goes_on(work: Path) -> None:
     world.marks.ended(two)
     world.marks.take(b"late")
     world.marks.finish()
-    judge(
-        "one that none has is said too", world.said[-1] == "bpfrec live: mark late: the recording has ended", world.said
-    )
+    holds = world.said[-1] == "bpfrec live: mark late: the recording has ended"
+    judge("one that none has is said too", holds, world.said)
 
 
 def test_marks_of_a_recording_that_was_discarded_are_the_next_ones(work: Path) -> None:
@@ -119,14 +116,11 @@ def test_what_can_not_be_noted_is_said(work: Path) -> None:
     world.marks.take(b"x")
     judge("without facts", world.said == ["bpfrec live: mark x: f_1 has no facts, in which it would stand"], world.said)
     gone = world.recording(2)
-    gone.made.rmdir()
+    gone.folder.rmdir()
     world.marks.begun(gone)
     world.marks.take(b"y")
-    judge(
-        "without room",
-        world.said[-1] == "bpfrec live: mark y: it can't be noted: No such file or directory",
-        world.said,
-    )
+    holds = world.said[-1] == "bpfrec live: mark y: it can't be noted: No such file or directory"
+    judge("without room", holds, world.said)
     world.marks.ended(gone)
     for _ in range(1_025):
         world.marks.take(b"z")
@@ -145,7 +139,7 @@ def test_counters_go_on_where_the_clock_is_set(work: Path, monkeypatch: pytest.M
     steady, wall = steady + 3_000_000_000, wall - 3_600_000_000_000
     world.marks.begin_clock()
     world.marks.take(b"x")
-    (mark,) = marks_of(one.made, [])
+    (mark,) = marks_of(one.folder, [])
     judge("13 s behind the origin", mark["counter"] == 130_000_000, mark)
     judge("with the time of the host's clock", mark["time"] == "2025-12-01T11:00:10.0000000Z", mark)
 

@@ -1,7 +1,5 @@
 """Tries what bpfrec live makes, keeps and removes of recordings by themselves, without a run."""
 
-from __future__ import annotations
-
 import json
 import os
 import tempfile
@@ -116,11 +114,8 @@ def test_a_recording_that_has_to_go_waits_for_no_whole_file(work: Path) -> None:
         judge("one that waits goes", gone == [second.out] and not files.waiting, gone)
         files.end(files.job, 137)
     lines = [f"bpfrec live: {work}/b.ch10 isn't made: why", f"bpfrec live: {work}/a.ch10 isn't made: why"]
-    judge(
-        "and one in work",
-        (gone, err, files.awaited(), files.status) == ([second.out, first.out], lines, "", 0),
-        (gone, err),
-    )
+    holds = (gone, err, files.awaited(), files.status) == ([second.out, first.out], lines, "", 0)
+    judge("and one in work", holds, (gone, err))
 
 
 # ---- the next recording

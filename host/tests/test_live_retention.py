@@ -1,7 +1,5 @@
 """Tries which recordings of bpfrec live are removed, without a run: by how many they are, and by the room on a disk."""
 
-from __future__ import annotations
-
 import threading
 from collections.abc import Callable, Iterator
 from pathlib import Path

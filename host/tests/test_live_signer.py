@@ -1,7 +1,5 @@
 """Tries how live has ssh-keygen sign: what it says of faults, how long it may take, and that it asks nobody."""
 
-from __future__ import annotations
-
 import os
 import signal
 import subprocess

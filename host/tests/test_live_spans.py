@@ -1,8 +1,6 @@
 """Tries the spans of bpfrec live: which a channel gets, what the recorder and the capture get of it, and parts of
 seconds."""
 
-from __future__ import annotations
-
 from pathlib import Path
 
 import pytest
@@ -55,6 +53,16 @@ def test_a_span_of_settings_goes_ahead_of_the_option(settings: Path, work: Path,
     judge("the capture gets those that are some", folder.span_arguments() == wanted, folder.span_arguments())
 
 
+def test_a_span_of_a_channel_is_a_time_too(settings: Path, work: Path) -> None:
+    text = settings.read_text()
+    settings.write_text(text.replace("span = 70", 'span = "20ms"'))
+    judge("in ticks", made(settings, work / "o.ch11", *WAYS).spans[2] == 200_000)
+    settings.write_text(text.replace("span = 70", 'span = "20x"\nname = "bus A"'))
+    line = f"bpfrec live: {settings}: channel 2: span: needs a number from 0.000001 to 28147497, in seconds"
+    with pytest.raises(Refusal, match=line):
+        read([str(settings), "o.ch11", *WAYS])
+
+
 def test_channels_of_one_interface_share_its_marks(settings: Path, work: Path) -> None:
     """As often as the shortest span asks for; one without a span takes them too, and closes no packet by them."""
     folder = made("--span", 0, settings, work / "o.ch11", "rx0=1", "rx0=2", "rx1=3")
@@ -71,7 +79,7 @@ def test_a_span_of_settings_that_is_none_is_refused_by_its_channel(settings: Pat
     for value, why in [
         ("-1", "-1 is not in 0 to 281474976710655"),
         ("281474976710656", "281474976710656 is not in 0 to 281474976710655"),
-        ('"1s"', "a text, and it must be a whole number"),
+        ('"1x"', "a text, and it must be a whole number"),
         ("true", "true or false, and it must be a whole number"),
     ]:
         settings.write_text(text.replace("span = 70", f"span = {value}"))

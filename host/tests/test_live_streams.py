@@ -52,11 +52,8 @@ def test_lines_without_room_are_counted_and_the_next_one_says_so() -> None:
     fcntl.fcntl(writes, 1031, 1 << 16)
     lines.put("after")
     told = os.read(reads, 4_096).decode()
-    judge(
-        "the lines are counted",
-        told == "bpfrec live: 20 lines were left out: standard error had no room\nafter\n",
-        told,
-    )
+    holds = told == "bpfrec live: 20 lines were left out: standard error had no room\nafter\n"
+    judge("the lines are counted", holds, told)
     os.close(reads)
     lines.put("to nobody")
     judge("a stream that is gone holds nothing up", lines.left_out == 0)
@@ -83,23 +80,8 @@ def test_what_has_no_room_waits_and_a_broken_stream_fails() -> None:
         device = standard_streams.Printed(full.fileno())
         device.put("d")
         judge("a full device too", device.has_failed)
-    judge(
-        "a stream that is only read isn't reopened to be written",
-        standard_streams.another(os.open("/dev/null", 0), os.O_WRONLY) is None,
-    )
-
-
-def test_each_signal_that_ends_live_comes_to_the_loop(signals: Signals) -> None:
-    """Each that ends live comes to the loop, also one that came before; an end of a program isn't one of them."""
-    os.kill(os.getpid(), signal.SIGTERM)
-    os.kill(os.getpid(), signal.SIGCHLD)
-    came: list[int] = []
-    loop = Loop(signals, lambda: came.append(1))
-    loop.turn(1)
-    judge("a signal that came before", came == [1])
-    os.kill(os.getpid(), signal.SIGINT)
-    loop.turn(1)
-    judge("and a later one", came == [1, 1] and signals.come() == [])
+    holds = standard_streams.another(os.open("/dev/null", 0), os.O_WRONLY) is None
+    judge("a stream that is only read isn't reopened to be written", holds)
 
 
 def test_a_descriptor_that_is_closed_and_given_anew_is_not_mixed_up(signals: Signals) -> None:
@@ -184,7 +166,6 @@ def test_lines_come_whole_and_long_ones_in_parts(monkeypatch: pytest.MonkeyPatch
 
 
 def test_a_recorder_that_reads_no_more_lines_answers_none() -> None:
-    """A recorder that reads no lines any more answers none."""
     pipe = Pipe()
     for _ in range(5_000):
         pipe.put(b"set 1 " + b"x" * 100, Change(1, None))
@@ -206,32 +187,6 @@ def after(done: Callable[[], None], found: list[int]) -> list[int]:
     """What is found once something is done."""
     done()
     return found
-
-
-def test_what_cannot_be_watched_is_looked_at_now_and_then(work: Path) -> None:
-    path = work / "watched"
-    path.write_bytes(b"")
-    looked: list[int] = []
-    watches = Watches()
-    if watches.descriptor is None:
-        pytest.skip("the kernel has no watches left")
-    key = watches.add(str(path), system.MODIFIED, lambda: looked.append(1))
-    path.write_bytes(b"a")
-    wait_for("it is told", lambda: after(watches.serve, looked), 3)
-    watches.remove(key)
-    many = len(looked)
-    path.write_bytes(b"b")
-    watches.serve()
-    judge("a watch that has ended tells nothing", len(looked) == many and watches.deadline() is None)
-    gone = watches.add(str(work / "none"), system.MODIFIED, lambda: looked.append(2))
-    judge("what can't be watched is looked at", watches.deadline() is not None)
-    watches.tick(time.monotonic())
-    judge_quietly("now and then", looked[-1] == 2)
-    watches.remove(gone)
-    watches.close()
-    watches.close()
-    watches.serve()
-    judge("until that ends too", watches.deadline() is None)
 
 
 def test_without_ctypes_live_does_without_what_it_is_for(monkeypatch: pytest.MonkeyPatch) -> None:

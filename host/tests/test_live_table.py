@@ -1,7 +1,5 @@
 """Tries the table of live's run: each of its rows is met, all else that is met changes nothing, and its picture."""
 
-from __future__ import annotations
-
 import itertools
 import random
 from collections.abc import Callable

@@ -1,11 +1,9 @@
 """Tries parts of bpfrec live by themselves, without root: operands, names, files and what is kept safe."""
 
-import contextlib
 import errno
 import functools
 import os
 import re
-import resource
 import time
 from collections.abc import Callable
 from pathlib import Path
@@ -19,7 +17,7 @@ from bpfrec_tools.live.help import MORE
 from bpfrec_tools.live.kept import names
 from bpfrec_tools.live.kept.keeper import Keeper
 from bpfrec_tools.live.kept.names import Files, Refusal
-from bpfrec_tools.live.parts import expressions, folder
+from bpfrec_tools.live.parts import expressions
 from bpfrec_tools.live.reports import notify
 from service import Manager
 from support import ROOT, judge, judge_quietly, wait_for
@@ -75,7 +73,6 @@ def test_interfaces_and_their_filters_are_taken_apart(work: Path) -> None:
         (["s.toml", "lo"], "bpfrec live: OUT is missing: it stands between s.toml and lo"),
     ]:
         judge_quietly(f"{given}", refused(functools.partial(operands.operands_of, given)) == (2, line))
-    judge("operands are taken apart, and what is missing is named", True)
 
 
 def test_help_says_which_keys_a_channel_of_a_flight_must_have() -> None:
@@ -90,10 +87,8 @@ FIRST = "OUT stands first, then interfaces, as flight.ch11 eth0"
 
 def test_options_of_the_capture_keep_their_order() -> None:
     given = arguments.read(["--buffer=4", "--quiet", "--clock", "adapter", "--every", "5", "--", "s.toml", "o", "lo=1"])
-    judge(
-        "options of the capture are kept in their order",
-        given.options == ["--buffer", "4", "--quiet", "--clock", "adapter"] and given.clock() == "adapter",
-    )
+    holds = given.options == ["--buffer", "4", "--quiet", "--clock", "adapter"] and given.clock() == "adapter"
+    judge("options of the capture are kept in their order", holds)
     judge("and the rest is read", (given.every, given.sync, given.is_rotating()) == (5, 1, True))
     for words_given, line in [
         (["--origin"], "bpfrec live: --origin needs a value"),
@@ -107,7 +102,6 @@ def test_options_of_the_capture_keep_their_order() -> None:
         (["--eve", "3"], "bpfrec live: no such option: --eve: did you mean --every?"),
     ]:
         judge_quietly(f"{words_given}", refused(functools.partial(arguments.read, words_given)) == (2, line))
-    judge("what is wrong is said in one line", True)
     offers = completing.offers_for(["live", "--check-sequence", ""])
     judge("choices are offered", offers == ["adapter", "given", "missing"], offers)
     source = (ROOT / "capture/src/arguments.c").read_text()
@@ -126,7 +120,6 @@ def test_names_of_recordings_that_are_taken_are_passed(work: Path) -> None:
     judge("one that is given back comes again", found.next()[0] == 4)
     for out, wanted in [("x", "x_00001"), (".x", ".x_00001"), ("d.d/x", "d.d/x_00001"), ("x.y.z", "x.y_00001.z")]:
         judge_quietly(f"{out}", Names(out).next()[1] == wanted)
-    judge("the number stands before the ending", True)
 
 
 def test_force_opens_what_is_there_and_empties_nothing(work: Path) -> None:
@@ -145,36 +138,13 @@ def test_force_opens_what_is_there_and_empties_nothing(work: Path) -> None:
     with pytest.raises(OSError):
         Files(is_forced=True).create(str(work / "pipe"))
     judge("a folder isn't OUT", refused(lambda: Files(is_forced=True).refuse_overwriting(str(work)))[0] == 3)
-    judge(
-        "nor has it one",
-        refused(lambda: names.refuse_folder(str(work / "no/x"))) == (3, f"bpfrec live: {work}/no/x: no such folder"),
-    )
+    holds = refused(lambda: names.refuse_folder(str(work / "no/x"))) == (3, f"bpfrec live: {work}/no/x: no such folder")
+    judge("nor has it one", holds)
 
 
 def test_settings_are_made_where_none_are_given() -> None:
     text = expressions.settings_text([operands.Route("eth0", 3, "udp\nport 5"), operands.Route("eth1", 4)])
     judge("settings of none", text.count("[[channel]]") == 2 and "# udp port 5\n" in text and "# all frames\n" in text)
-
-
-def test_the_private_folder_is_removed_also_where_descriptors_are_short(
-    work: Path, monkeypatch: pytest.MonkeyPatch
-) -> None:
-    monkeypatch.setenv("TMPDIR", str(work / "private"))
-    given = arguments.read(["o.ch11", "lo"])
-    private = folder.Folder(*folder.made_settings(given.routes), given)
-    private.make_all()
-    before, held = resource.getrlimit(resource.RLIMIT_NOFILE), []
-    resource.setrlimit(resource.RLIMIT_NOFILE, (256, before[1]))
-    try:
-        with contextlib.suppress(OSError):
-            while True:
-                held.append(os.dup(1))
-        private.remove_all()
-    finally:
-        for descriptor in held:
-            os.close(descriptor)
-        resource.setrlimit(resource.RLIMIT_NOFILE, before)
-    judge("nothing of it is there", os.listdir(work / "private") == [])
 
 
 # ---- what is noted and kept

@@ -1,7 +1,5 @@
 """Tries lines in words: which there are, what is a filter in words, and when a run ends that was given a time."""
 
-from __future__ import annotations
-
 import subprocess
 from collections.abc import Callable, Sequence
 from pathlib import Path
@@ -12,14 +10,11 @@ from bpfrec_tools.live.arguments import read
 from bpfrec_tools.live.control.changes import Changes, Held
 from bpfrec_tools.live.control.made_filters import MadeFilter, make
 from bpfrec_tools.live.control.words import Word, word_of
-from bpfrec_tools.live.kept import noted
-from bpfrec_tools.live.kept.facts import About, Writer
-from bpfrec_tools.live.kept.names import Files, Refusal
-from bpfrec_tools.live.kept.noted import FILTERS, note_filter
+from bpfrec_tools.live.kept.names import Refusal
 from bpfrec_tools.live.parts import expressions
 from bpfrec_tools.live.parts.children import Manner, start
 from bpfrec_tools.live.parts.expressions import ALL, ALL_FRAMES, arguments_for, fault_of, is_in_words
-from bpfrec_tools.live.parts.folder import Folder, made_settings, read_settings
+from bpfrec_tools.live.parts.folder import Folder, made_settings
 from bpfrec_tools.live.parts.recorder import Recorder
 from bpfrec_tools.live.run.end_of_run import EndOfRun
 from support import judge, wait_for
@@ -172,39 +167,6 @@ def test_an_empty_filter_in_quotes_is_that_of_all_frames(folder: Folder) -> None
     judge("it is made of no words", held.made and (held.change.words, held.change.name) == ("", ALL), held.change)
 
 
-def test_facts_have_the_words_of_each_filter_that_a_recording_had(
-    folder: Folder, monkeypatch: pytest.MonkeyPatch
-) -> None:
-    """Those that a line set while it went on too, also where facts were written ahead of that; and the next one's."""
-    given = read(["--every", "5", "out.ch11", "rx0"])
-    writer = Writer(given, folder, str(assembler(folder.top)), Files())
-    abouts = [About(number, f"out_{number}.ch11", number - 1, "2025-12-01T12:00:00Z") for number in (1, 2)]
-    changes = Changes(folder, True, lambda _, listing: MadeFilter(listing))
-
-    def begin(about: About) -> Path:
-        (folder.top / str(about.number)).mkdir()
-        writer.prepare(about)
-        return folder.of(about.number)
-
-    made = begin(abouts[0])
-    for at, (line, is_installed) in enumerate({"udp": True, "udp prt 5": False, "arp": True}.items(), 2):
-        change = changes.held(f"set 1 {line}".encode()).change
-        assert change.copy
-        change.copy.write_text(f"1,6 0 0 {at},")
-        changes.answered(change, is_installed, made)
-        writer.beginning(abouts[0])
-    begin(abouts[1])
-    with open(made / FILTERS, "a") as cut:
-        cut.write('{"channel": 1, "listing')
-    wanted = [[(ALL_FRAMES, None), ("1,6 0 0 2,", "udp"), ("1,6 0 0 4,", "arp")], [("1,6 0 0 4,", "arp")]]
-    found = [[(it["listing"], it.get("expression")) for it in writer.beginning(about)["filters"]] for about in abouts]
-    judge("in order", found == wanted, found)
-    judge("with their texts", all(it["text"] == "assembled\n" for it in writer.beginning(abouts[0])["filters"]))
-    monkeypatch.setattr(noted, "MOST_FILTERS_LEN", 1)
-    note_filter(made, 1, folder.kept_filter(1), "too many")
-    judge("there is an end", len(writer.beginning(abouts[0])["filters"]) == 3)
-
-
 def test_a_run_ends_once_after_its_time_from_the_first_recording_on() -> None:
     ended: list[int] = []
     end = EndOfRun(3, lambda: ended.append(1))
@@ -236,43 +198,10 @@ def test_a_time_has_units(word: str) -> None:
     judge(word, found == SECONDS.get(word), found)
 
 
-def settings_with(work: Path, *filters: str) -> str:
-    """Settings of channels from 1 on with these filters."""
-    tables = [f'[[channel]]\nid = {at}\nfilter = "{it}"\n' for at, it in enumerate(filters, 1)]
-    (work / "s.toml").write_text("".join(tables))
-    return str(work / "s.toml")
-
-
-def test_settings_give_filters_in_words(work: Path, monkeypatch: pytest.MonkeyPatch) -> None:
-    """Texts and expressions as listings, but where the arguments give another; a listing stays the file that it is."""
-    monkeypatch.setenv("BPFREC", str(assembler(work)))
-    monkeypatch.setenv("PATH", f"{tcpdump(work)}:/usr/bin:/bin")
-    (work / "text.bpf").write_text("ret #7\n")
-    (work / "listing").write_text(KEEPS)
-    path = settings_with(work, "udp port 5004", f"{work}/text.bpf", f"{work}/listing", "arp")
-    given = read([path, "out.ch11", "rx0=1", "rx1=2", "rx2=3", "rx3=4:ip"])
-    _, settings = read_settings(path)
-    made = Folder("", settings, given)
-    wanted = {1: "made of udp port 5004\n", 2: "assembled\n", 4: "made of ip\n"}
-    judge("their listings", made.listings == wanted, made.listings)
-    judge(
-        "the words are known",
-        {it: text for it, (_, text) in made.words.items()} == {1: "udp port 5004", 2: f"{work}/text.bpf"},
-    )
-    bad = settings_with(work, "bad one")
-    with pytest.raises(Refusal, match="filter bad one of channel 1: tcpdump: syntax error"):
-        Folder("", read_settings(bad)[1], read([bad, "out.ch11", "rx0=1"]))
-
-
 def program_at(path: Path, text: str) -> Path:
     path.write_text(f"#!/bin/sh\n{text}\n")
     path.chmod(0o755)
     return path
-
-
-def assembler(work: Path) -> Path:
-    """Stands for bpfrec, and assembles."""
-    return program_at(work / "bpfrec", "echo assembled")
 
 
 def tcpdump(work: Path) -> Path:

@@ -1,7 +1,5 @@
 """Tries parts of bpfrec export by themselves: many packets, many filters, and what no capture has."""
 
-from __future__ import annotations
-
 from pathlib import Path
 from types import SimpleNamespace
 from typing import cast

@@ -55,7 +55,7 @@ NAMED = "and it must be a name in quotes"
 WRONG = {
     "run = 3\n": ["flight.toml:1: run: a number, and it must be a table, as [run] begins it"],
     '[run]\nouf = "o"': ["flight.toml:2: [run] has no key ouf: did you mean out?"],
-    "[run]\nquiet = true": ["live: it takes SETTINGS and OUT: bpfrec live --help has its arguments"],
+    "[run]\nquiet = true": ["bpfrec live: it takes SETTINGS and OUT: bpfrec live --help has its arguments"],
     f'{RUN}quiet = 3\npublish = ["x", "y"]\nspan = -3\n[[channel]]\nid = 1\nname = 4\ninterface = "e 0"': [
         f"flight.toml:9: channel 1: name: a number, {NAMED}",
         "flight.toml:4: [run] quiet: a number, and it must be true or false",
@@ -96,6 +96,9 @@ def test_an_interface_may_be_given_a_channel_by_its_name(work: Path, monkeypatch
     routes = [("eth5", 2, "tcp[0] = 5"), ("eth6", 1, None)]
     judge("by its name", [tuple(it) for it in given.routes] == routes, given.routes)
     judge("and no other operand is one", given.out == "bus B", given.out)
+    Path("colon.toml").write_text(RUN + channels("bus eth0", "bus:A eth1"))
+    named = [(it.channel, it.expression) for it in read(["colon.toml", "e=bus:A:arp", "f=bus:arp"]).routes]
+    judge("a name may have a colon", named == [(2, "arp"), (1, "arp")], named)
     with pytest.raises(Refusal, match="^bpfrec live: eth5=bus C:arp: no channel bus C: 1 bus A, 2 bus B$"):
         read(["flight.toml", "out", "eth5=bus C:arp"])
 
@@ -111,6 +114,4 @@ def test_each_fault_of_a_flight_is_named(
     judge_flight(line, line.flight, report)
     judge("each by its line", capsys.readouterr().out.splitlines() == WRONG[text], report.faults)
     given = arguments_of(line)
-    judge(
-        "the rest is read", (given.targets, given.span, len(given.routes)) == ([], None, text.count("channel")), given
-    )
+    judge("the rest", (given.targets, given.span, len(given.routes)) == ([], None, text.count("channel")), given)

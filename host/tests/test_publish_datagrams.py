@@ -1,7 +1,5 @@
 """Tries the datagrams that bpfrec publish sends by a reader of its own, and what bpfrec receive makes of them."""
 
-from __future__ import annotations
-
 import random
 import struct
 import time

@@ -1,8 +1,6 @@
 """Tries which bytes of a recording bpfrec publish gives to its streams, and what their SETUP says, by a program that is
 played: its packets are the recording's own."""
 
-from __future__ import annotations
-
 import os
 import random
 import time

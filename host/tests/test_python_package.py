@@ -4,8 +4,6 @@ test_python_package_damage.py has damaged recordings, and test_python_package_se
 several recordings.
 """
 
-from __future__ import annotations
-
 import json
 import zlib
 from datetime import date, datetime, timedelta, timezone
@@ -122,7 +120,6 @@ def test_a_time_that_nobody_knows_is_none(work: Path) -> None:
         judge_quietly(f"{origins}", [it.time_ns is not None for it in found] == wanted, found)
         judge_quietly("nor is there a datetime", [it.datetime is not None for it in found] == wanted)
         judge_quietly("by the rule", not origins or wanted == [is_utc(origins, it) for it in (8, 9, 17)])
-    judge("and all others are known", True)
 
 
 def test_facts_are_those_beside_the_recording_or_those_that_are_named(work: Path) -> None:
@@ -166,7 +163,6 @@ def test_channels_are_chosen_by_their_ids_and_names(work: Path, asked: Any, want
     for by_time in (False, True):
         found = counters(opened.frames(channels=asked, by_time=by_time))
         judge_quietly(f"{found}", sorted(found) == sorted(it for it in IN_ORDER if it[0] in wanted))
-    judge("no others come", True)
 
 
 def test_a_channel_that_no_recording_has_is_refused(work: Path) -> None:
@@ -196,7 +192,6 @@ def test_a_channel_is_chosen_by_itself_and_by_any_integer(work: Path) -> None:
     ]
     for asked, wanted in table:
         judge_quietly(f"{asked}", counters(opened.frames(channels=asked)) == wanted)
-    judge("each is", True)
 
 
 @pytest.mark.parametrize("asked", [1.0, b"eth0", bytearray(b"eth0"), [1.0], [b"eth0"], [[1]], object()])

@@ -1,9 +1,6 @@
 """Tries the Python package `bpfrec` on damaged recordings and other files: what it refuses, what it keeps in memory, and
 what it promises."""
 
-from __future__ import annotations
-
-import ast
 import copy
 import gc
 import inspect
@@ -19,7 +16,7 @@ import bpfrec
 import pytest
 from frames import COMPUTER, FRAMES, body_of, packet_of, program_packet
 from small_recordings import FRAME, IN_ORDER, PACKETS, counters, packet, recording, written
-from support import MEBIBYTE, ROOT, judge, judge_quietly
+from support import MEBIBYTE, judge, judge_quietly
 
 
 def damaged(change: Callable[[bytearray], object]) -> bytes:
@@ -94,7 +91,6 @@ def test_a_recording_that_is_cut_anywhere_has_the_frames_before(work: Path) -> N
         for skip_damage in (False, True):
             found = frames_until_damage(path, skip_damage)
             judge_quietly(f"cut to {length}", found == whole[: len(found)])
-    judge(f"at each of {len(data)} lengths", True)
 
 
 def test_no_byte_leads_to_another_exception(work: Path) -> None:
@@ -107,7 +103,6 @@ def test_no_byte_leads_to_another_exception(work: Path) -> None:
             for skip_damage in (False, True):
                 found = [replace(it, version=None) for it in frames_until_damage(path, skip_damage)]
                 judge_quietly(f"byte {at} set to {value}", all(it in plain for it in found), found)
-    judge("none does", True)
 
 
 def test_what_is_no_recording_is_refused(work: Path) -> None:
@@ -155,9 +150,8 @@ def test_damage_at_the_very_beginning_can_be_skipped(work: Path) -> None:
 
 def test_an_empty_recording_has_nothing(work: Path) -> None:
     opened = bpfrec.open(written(work, b""))
-    judge(
-        "no frames", list(opened) == [] and (opened.channels, opened.filters, opened.ends, opened.faults) == ((),) * 4
-    )
+    holds = list(opened) == [] and (opened.channels, opened.filters, opened.ends, opened.faults) == ((),) * 4
+    judge("no frames", holds)
 
 
 def test_packets_of_other_kinds_are_left_alone(work: Path) -> None:
@@ -265,11 +259,3 @@ def test_all_that_is_promised_says_what_it_means() -> None:
             is_field = is_dataclass(thing) and attribute in {it.name for it in fields(thing)}
             judge_quietly(f"{name}.{attribute}", is_field or len(text) > 20, text)
     judge("and its types are promised", (Path(bpfrec.__file__).parent / "py.typed").exists())
-
-
-def test_the_sources_are_of_python_3_9() -> None:
-    """Of the package and of all that it may import; mypy reads them as of 3.9 too."""
-    files = [*(ROOT / "host/bpfrec").rglob("*.py"), *(ROOT / "host/bpfrec_tools").rglob("*.py")]
-    for file in files:
-        ast.parse(file.read_text(encoding="utf-8"), str(file), feature_version=(3, 9))
-    judge(f"{len(files)} files", len(files) > 100)

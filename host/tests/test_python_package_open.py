@@ -1,7 +1,5 @@
 """Tries how the Python package `bpfrec` opens recordings: what it reads of them, files that are open, and what it gives."""
 
-from __future__ import annotations
-
 import copy
 import gc
 import gzip

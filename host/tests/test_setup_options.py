@@ -1,7 +1,5 @@
 """Tries attributes of setup records, by the tools that make these, and what hostile facts make of SETUP."""
 
-from __future__ import annotations
-
 import argparse
 import json
 import os
@@ -14,9 +12,8 @@ from bpfrec_tools.chapter11.options import attribute_of
 from expected_facts import facts_of_run
 from reading import SAMPLES
 from setups import CHAPTER11
-from support import TOOLS, judge, outcome, run
+from support import PUBLISH, judge, outcome, run
 
-PUBLISH = TOOLS / "publish"
 # Names that some reader takes for one of the setup record's own.
 KEPT = [
     *(

@@ -1,10 +1,7 @@
 """Tries bpfrec export of recordings of a run, by what their facts say: SETUP, their order, and what is refused."""
 
-from __future__ import annotations
-
 import json
 import os
-import shutil
 import subprocess
 from pathlib import Path
 from typing import Any
@@ -14,7 +11,7 @@ import tomllib
 from frames import FRAMES, body_of, end_packet, packet_of, program_packet
 from setups import CHAPTER11
 from several_recorders import facts_by, in_run, recording_at, run_at
-from support import EXPORT, judge, judge_quietly, outcome
+from support import judge, judge_quietly, outcome
 
 BEGUN = "1764590400.000000000"
 FAR = "the clock was set by over a second: frames before that have times by the clock as it was set then"
@@ -162,22 +159,6 @@ def test_names_of_what_is_missing_are_cleaned(work: Path) -> None:
     refused(work, line, names[0], names[2])
 
 
-def test_gaps_is_no_option_of_a_capture(work: Path) -> None:
-    done = outcome(EXPORT, "--gaps", "a.ch11", "b.pcapng", cwd=work)
-    line = "--gaps is for a whole Chapter 11 file, and OUT is a capture\n"
-    judge("it is refused", done.returncode == 2 and done.stderr.endswith(line), done)
-
-
-def test_a_copy_is_a_recording_that_is_given_twice(work: Path) -> None:
-    names = run_at(work, 2)
-    (work / "copies").mkdir()
-    for ending in ("", ".json"):
-        shutil.copy(work / f"{names[0]}{ending}", work / "copies")
-    refused(
-        work, f"copies/{names[0]}: it is given twice, by its facts, as {names[0]} too", *names, f"copies/{names[0]}"
-    )
-
-
 # ---- channels
 
 
@@ -241,12 +222,6 @@ def test_a_clock_that_was_set_far_is_so_in_the_recordings_before(work: Path) -> 
     judge("each says so", said == [f"flight_0000{it}.ch11" for it in (1, 2, 3)], said)
 
 
-def test_a_clock_that_is_set_far_in_the_last_recording_is_so_in_all(work: Path) -> None:
-    noted = [[origin(BEGUN)], [origin(BEGUN), origin("1764590398.999999999", 9)]]
-    found, said = times_of(work, *noted)
-    judge("the last one", found == 2 * [[origin("1764590398.999999999")]] and len(said) == 2, (found, said))
-
-
 def test_a_step_lies_between_recordings_by_the_scale_that_is_said(work: Path) -> None:
     tai = {**origin("1764590437.000000000"), "scale": "TAI", "tai_offset": 37}
     names = run_at(work, 2)
@@ -256,10 +231,3 @@ def test_a_step_lies_between_recordings_by_the_scale_that_is_said(work: Path) ->
         done = printed(work, f"--tai={offset}", *names)
         found = [it["origins"][0]["scale"] for it in tomllib.loads(done.stdout)["recording"]]
         judge(f"{offset}", found == scales and bool(done.stderr) == (offset == 39), (found, done.stderr))
-
-
-def test_a_scale_that_nobody_knows_names_its_recording(work: Path) -> None:
-    names = run_at(work, 2)
-    with_facts(work / names[1], origins=[{**origin(BEGUN), "scale": None}])
-    scale = "its scale is unknown: --utc says that it is UTC, and --tai 37 that it is 37 s ahead"
-    refused(work, f"{names[1]}.json: the origin from counter 0 on: {scale}", *names)

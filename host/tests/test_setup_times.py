@@ -1,7 +1,5 @@
 """Tries the times in SETUP: those of the facts, as these have them."""
 
-from __future__ import annotations
-
 import shutil
 from pathlib import Path
 

@@ -1,7 +1,5 @@
 """Tries the alarms of the status: each at its threshold, by views that are written by hand."""
 
-from __future__ import annotations
-
 from collections.abc import Iterable
 from typing import Any
 

@@ -1,7 +1,5 @@
 """Tries that no client can stop the server of the status, or slow the run: slow ones, hostile ones, and many."""
 
-from __future__ import annotations
-
 import contextlib
 import resource
 import socket
@@ -61,7 +59,6 @@ def test_a_client_that_reads_nothing_holds_up_no_other(work: Path, monkeypatch: 
 
 
 def test_asking_and_being_answered_have_one_time_together(work: Path, monkeypatch: pytest.MonkeyPatch) -> None:
-    """Asking and being answered have one time together."""
     monkeypatch.setattr(server, "MOST_SECONDS", 2.0)
     flight = Flight(work, wires_of(64), endpoint=endpoint_in("0"))
     present(flight.status.server).socket.setsockopt(socket.SOL_SOCKET, socket.SO_SNDBUF, 4_096)
@@ -108,10 +105,8 @@ def test_two_hundred_silent_connections_hold_up_no_request(flight: Flight) -> No
         judge("there are as many threads as may be", threads() - before <= server.MOST_CONNECTIONS, threads())
         judge("and as many connections", len(present(flight.status.server).open) <= server.MOST_CONNECTIONS)
     wait_for("all places are free again", lambda: not present(flight.status.server).open, 10)
-    judge(
-        "and nothing is lost of them",
-        all(present(flight.status.server).places.acquire(blocking=False) for _ in range(server.MOST_CONNECTIONS)),
-    )
+    holds = all(present(flight.status.server).places.acquire(blocking=False) for _ in range(server.MOST_CONNECTIONS))
+    judge("and nothing is lost of them", holds)
 
 
 def test_the_run_is_not_slowed(flight: Flight) -> None:

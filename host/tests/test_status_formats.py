@@ -1,7 +1,5 @@
 """Tries the two texts of the status: JSON by docs/user/formats/status.schema.json, metrics by a reader of their own."""
 
-from __future__ import annotations
-
 import json
 import re
 import shutil
@@ -16,7 +14,7 @@ from bpfrec_tools.live.status.as_json import kept_rates, offered_rates
 from bpfrec_tools.live.status.view import Second
 from schemas import FORMATS, faults, schema_of
 from scripted import BEGIN, Alarm, Counts, Flight, Setup, Status, View, Wire, alarms, as_json, metrics, wires_of
-from support import judge, judge_quietly, outcome, present
+from support import judge, judge_quietly, outcome
 
 ODD_NAMES = [
     'a"b',
@@ -109,22 +107,6 @@ def changed_history(found: dict) -> dict:
     return {**found, "channels": [channel]}
 
 
-def test_the_status_has_the_numbers_of_its_run(flights: dict) -> None:
-    """Some numbers by hand."""
-    found = object_of(*told_of(flights["losing"]), 1.26)
-    one, two = found["channels"]
-    judge("age, state, level", (found["age"], found["state"], found["level"]) == (1.3, "recording", "alarm"))
-    offered = {"frames": 36_000, "bytes": 2_160_000, "frames_per_second": 500, "bytes_per_second": 30_000}
-    judge("what was offered", one["offered"] == offered, one["offered"])
-    judge("what was kept", two["kept"]["frames"] == 15_000 and one["kept"]["frames"] == 0, two["kept"])
-    judge("what was lost", (one["dropped"], one["waited"], two["dropped"]) == (5 * 72, 300 * 72, 0))
-    judge("the age of the last frame", (one["frame_age"], two["frame_age"]) == (0.3, 42.3), two["frame_age"])
-    words = {"loses frames", "keeps nothing", "pipe waits"}
-    judge("words of its alarms", set(one["words"]) == words and two["words"] == ["silent"], one["words"])
-    judge("a minute of each", {len(it) for it in one["history"].values()} == {60})
-    judge("and the file's damage", found["recording"]["fault"].startswith("read 2 Sync "), found["recording"])
-
-
 @pytest.mark.parametrize("name", ODD_NAMES, ids=range(len(ODD_NAMES)))
 def test_odd_names_stand_in_the_texts_as_they_are(work: Path, name: str) -> None:
     """Names that would break a text stand in it as they are, but for what has no UTF-8."""
@@ -201,31 +183,6 @@ def test_metrics_are_read_by_a_reader_and_promtool(flights: dict) -> None:
             judge(f"{name}: also by promtool", done.returncode == 0, done)
 
 
-def test_metrics_have_the_numbers_of_their_run(flights: dict) -> None:
-    view, told = told_of(flights["losing"])
-    samples = {
-        (it.name, it.labels.get("channel"), it.labels.get("name")): it.value
-        for it in read_metrics(metrics.with_age(metrics.text_of(view, told), 0.25))
-    }
-    wanted = {
-        ("bpfrec_status_age_seconds", None, None): 0.25,
-        ("bpfrec_recording", None, None): 1,
-        ("bpfrec_recording_bytes", None, None): present(view.recording).bytes,
-        ("bpfrec_alarms", None, "keeps_nothing"): 1,
-        ("bpfrec_alarms", None, "disk"): 0,
-        ("bpfrec_alarms", None, "clock"): 1,
-        ("bpfrec_clock_synchronised", None, None): 0,
-        ("bpfrec_clock_max_error_seconds", None, None): 16,
-        ("bpfrec_channel_offered_frames_total", "1", None): 36_000,
-        ("bpfrec_channel_kept_frames_total", "2", None): 15_000,
-        ("bpfrec_channel_dropped_frames_total", "1", None): 360,
-        ("bpfrec_channel_waited_seconds_total", "1", None): 21.6,
-        ("bpfrec_channel_last_frame_age_seconds", "2", None): 42.3,
-    }
-    found = {it: samples.get(it) for it in wanted}
-    judge("they have the run's numbers", found == wanted, found)
-
-
 def test_the_error_of_a_clock_is_there_to_the_microsecond(flights: dict) -> None:
     view, told = told_of(flights["going"])
     samples = {it.name: it.value for it in read_metrics(metrics.text_of(view, told))}
@@ -238,10 +195,8 @@ def test_the_error_of_a_clock_is_there_to_the_microsecond(flights: dict) -> None
 def test_what_is_not_known_has_no_sample(flights: dict) -> None:
     samples = read_metrics(metrics.text_of(*told_of(flights["without"])))
     names = {it.name for it in samples}
-    judge(
-        "of a feed nobody counts",
-        "bpfrec_channel_offered_frames_total" not in names and "bpfrec_channel_kept_frames_total" in names,
-    )
+    holds = "bpfrec_channel_offered_frames_total" not in names and "bpfrec_channel_kept_frames_total" in names
+    judge("of a feed nobody counts", holds)
     judge("of a clock of which nobody says anything", not any(it.startswith("bpfrec_clock") for it in names), names)
 
 

@@ -3,8 +3,6 @@
 Its moments are the script's, so nothing waits here.
 """
 
-from __future__ import annotations
-
 import os
 import sys
 import tracemalloc
@@ -77,11 +75,8 @@ def test_a_minute_of_two_channels_has_the_numbers_that_were_played(work: Path) -
     kept = [it.kept_frames for it in one.history]
     judge("as packets came", kept == [400.0] * 15 + [0.0] * 45, kept)
     judge("the last frame is 45.3 s old", one.frame_age == pytest.approx(45.3), one.frame_age)
-    judge(
-        "a fifth was kept",
-        (seven.kept_frames, sum(it.kept_frames for it in seven.history)) == (7_400, 6_000),
-        seven[:11],
-    )
+    holds = (seven.kept_frames, sum(it.kept_frames for it in seven.history)) == (7_400, 6_000)
+    judge("a fifth was kept", holds, seven[:11])
     judge("the counts are the capture's", seven.counts == Counts(37_500, 37_500 * FRAME_LENGTH, 27, 0, 0, 3_000))
     lost = [at for at, it in enumerate(seven.history) if it.dropped]
     judge("losses stand in their second", lost == [43] and seven.history[43].dropped == 9, lost)
@@ -98,15 +93,11 @@ def test_a_recording_has_its_name_its_length_and_its_time(work: Path) -> None:
     found = view_of(flight)
     size, begin = flight.path.stat().st_size, len(program(1, 0))
     judge("it is recording", found.state == "recording" and found.uptime == 10)
-    judge(
-        "its length is the file's, all of it was read",
-        present(found.recording)[:4] == (1, "flight.ch11", 10, size),
-        found.recording,
-    )
+    holds = present(found.recording)[:4] == (1, "flight.ch11", 10, size)
+    judge("its length is the file's, all of it was read", holds, found.recording)
     judge("and nothing is wrong", (present(found.recording).unread, present(found.recording).fault) == (0, None))
-    judge(
-        "its rate is that of its seconds", present(found.recording).bytes_per_second == pytest.approx(size / 10), begin
-    )
+    holds = present(found.recording).bytes_per_second == pytest.approx(size / 10)
+    judge("its rate is that of its seconds", holds, begin)
     judge("the disk's room is told", present(found.disk).free > 0)
     left = present(present(found.disk).free) / present(present(found.recording).bytes_per_second)
     judge("and until when", present(found.disk).seconds_left == pytest.approx(left), found.disk)
@@ -127,10 +118,8 @@ def test_a_disk_on_which_room_is_made_is_not_full_soon(work: Path) -> None:
     flight.begin()
     flight.pass_seconds(10)
     found = view_of(flight)
-    judge(
-        "a disk on which room is made isn't full soon",
-        present(found.disk).seconds_left is None and present(found.disk).free > 0,
-    )
+    holds = present(found.disk).seconds_left is None and present(found.disk).free > 0
+    judge("a disk on which room is made isn't full soon", holds)
 
 
 def test_lines_that_come_at_odd_times_make_no_jump_of_the_rate(work: Path) -> None:
@@ -195,10 +184,8 @@ def test_without_lines_of_the_capture_nothing_is_made_up(work: Path) -> None:
         flight.second += 1
         flight.status.tick(flight.now())
     found = channel_of(flight, 1)
-    judge(
-        "rates are not known after a while",
-        [it.offered_frames is None for it in found.history][-6:] == [False] * 3 + [True] * 3,
-    )
+    holds = [it.offered_frames is None for it in found.history][-6:] == [False] * 3 + [True] * 3
+    judge("rates are not known after a while", holds)
     judge("and how old the counts are is told", found.counts_age == pytest.approx(5.3))
 
 
@@ -225,7 +212,6 @@ def test_a_channel_without_an_interface_has_no_offered_frames(work: Path) -> Non
 
 
 def test_frames_of_both_files_count_while_the_first_one_ends(work: Path) -> None:
-    """Frames of both files count while the first one ends."""
     flight = Flight(work, {1: Wire("eth0", frames=400)})
     flight.begin("flight_00001.ch11")
     flight.pass_seconds(3)
@@ -239,10 +225,8 @@ def test_frames_of_both_files_count_while_the_first_one_ends(work: Path) -> None
     flight.path, flight.number = after, 2
     found = view_of(flight)
     judge("kept frames are those of both", channel_of(flight, 1).kept_frames == 3 * 400 + 200 + 2 * 400)
-    judge(
-        "the second goes on",
-        (present(found.recording).number, present(found.recording).seconds, found.state) == (2, 2, "recording"),
-    )
+    holds = (present(found.recording).number, present(found.recording).seconds, found.state) == (2, 2, "recording")
+    judge("the second goes on", holds)
     size = before.stat().st_size
     judge("the first has ended", found.recordings == ((1, before.name, size, 0, "yes other 0"),), found.recordings)
     judge("the end of the old recording isn't the channel's", not channel_of(flight, 1).has_ended)
@@ -324,5 +308,4 @@ def test_an_hour_takes_no_more_memory_than_ten_minutes(work: Path) -> None:
     # What was made before tracing began and is replaced now counts as grown.
     once = 64 * HISTORY_SECONDS * (sys.getsizeof((0,) * 10) + 8 * sys.getsizeof(1.5)) + (1 << 20)
     judge_quietly(f"memory grew by {grown}", grown < once)
-    judge("what is kept doesn't grow with the run", True)
     judge("nor do the files that are open", len(os.listdir("/proc/self/fd")) <= files)

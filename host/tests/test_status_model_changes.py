@@ -3,8 +3,6 @@
 Its moments are the script's, so nothing waits here.
 """
 
-from __future__ import annotations
-
 from pathlib import Path
 
 import pytest

@@ -1,7 +1,5 @@
 """Tries each number of the status and of its metrics beside the one that it stands for: no two are alike."""
 
-from __future__ import annotations
-
 import json
 import re
 from collections.abc import Iterable

@@ -28,18 +28,18 @@ def test_the_socket_is_found_by_its_path_the_runs_name_or_its_settings(bound: Pa
     judge(name, socket_of(name) == "flight.control", socket_of(name))
 
 
-def test_where_there_is_none_the_name_is_said(bound: Path) -> None:
+@pytest.mark.parametrize("name, beside", [("plain.ch11", "plain.control"), ("none", "none.control")])
+def test_where_there_is_none_the_name_is_said(bound: Path, name: str, beside: str) -> None:
     Path("plain.ch11").write_bytes(b"")
-    for name in ("plain.ch11", "none"):
-        judge(name, socket_of(name) == name)
-        done = outcome(TOOLS / "tell", name, "status", cwd=bound)
-        judge("nobody listens", done.returncode == 3 and f"bpfrec tell: {name}: nobody listens" in done.stderr, done)
+    done = outcome(TOOLS / "tell", name, "status", cwd=bound)
+    line = f"bpfrec tell: {name}: nobody listens there, or at {beside}\n"
+    judge("nobody listens", (done.returncode, done.stderr) == (3, line), done)
 
 
 def test_a_line_may_come_by_standard_input(bound: Path) -> None:
     done = outcome(TOOLS / "tell", cwd=bound)
     judge("RUN is missing", done.returncode == 2 and done.stderr.endswith("are required: RUN\n"), done)
-    done = outcome(TOOLS / "tell", "flight", stdin=subprocess.DEVNULL, cwd=bound)
+    done = outcome(TOOLS / "tell", "none", stdin=subprocess.DEVNULL, cwd=bound)
     judge("LINE isn't", done.returncode == 3 and "nobody listens" in done.stderr, done)
 
 
@@ -58,10 +58,8 @@ def test_the_socket_of_settings_in_another_folder(bound: Path, run: str) -> None
     folder = bound / "host2"
     (folder / "rec").mkdir(parents=True)
     (folder / "set.toml").write_text(f"[run]\n{run}\n")
-    wanted = os.path.join("host2", MEANT[run])
-    judge("the one that is missing", socket_of("host2/set.toml") == wanted, socket_of("host2/set.toml"))
     done = outcome(TOOLS / "tell", "host2/set.toml", "status", cwd=bound)
-    line = f"bpfrec tell: {wanted}: nobody listens: No such file or directory\n"
+    line = f"bpfrec tell: host2/set.toml: nobody listens at {os.path.join('host2', MEANT[run])}\n"
     judge("it is said", (done.returncode, done.stderr) == (3, line), done)
     (folder / "set.toml").write_text('[run]\nout = "o.ch11"\ncontrol = "flight.control"\n')
     judge("one in this folder", socket_of("host2/set.toml") == "flight.control")
@@ -77,11 +75,18 @@ def test_settings_whose_run_is_no_table_are_refused(work: Path) -> None:
     judge("it says so", (done.returncode, done.stderr) == (2, line), done)
 
 
+@pytest.mark.parametrize("wait", [["--wait=9"], ["--wait", "9"]])
+def test_an_option_may_stand_behind_run(bound: Path, wait: list[str]) -> None:
+    done = outcome(TOOLS / "tell", "none", *wait, "mark", "--wait", cwd=bound)
+    judge("it is none of the line", (done.returncode, done.stdout) == (3, ""), done)
+    done = outcome(TOOLS / "tell", "none", "--wait", "x", cwd=bound)
+    judge("and is judged", done.returncode == 2 and "argument --wait" in done.stderr, done)
+
+
 LINES: dict[str, list[str]] = {
     "set 7 udp port 5004": ["set", "7", "udp", "port", "5004"],
     "set 7 udp port 53": ["set", "7", "udp port 53"],
     'set "bus A" udp': ["set", "bus A", "udp"],
-    'set "bus A" ""': ["set", "bus A", ""],
     "set 7": ["set", "7"],
     "mark gear up now": ["mark", "gear up", "now"],
     "status": ["status"],
@@ -92,3 +97,10 @@ LINES: dict[str, list[str]] = {
 @pytest.mark.parametrize("line", LINES)
 def test_words_are_a_line(line: str) -> None:
     judge(line, line_of(LINES[line]) == line, line_of(LINES[line]))
+
+
+def test_an_empty_filter_is_refused() -> None:
+    """As a variable of the shell is that isn't set."""
+    done = outcome(TOOLS / "tell", "flight.ch11", "set", "1", "")
+    said = (2, "bpfrec tell: FILTER is empty; all keeps all frames\n")
+    judge("it opens no channel", (done.returncode, done.stderr) == said, done)

@@ -1,7 +1,5 @@
 """Tries times of the command line: of a day and with their date, and on which day one is that has none."""
 
-from __future__ import annotations
-
 import argparse
 import time
 from datetime import datetime, timezone
@@ -53,7 +51,6 @@ def test_a_time_has_its_moment_on_either_side_of_another() -> None:
     ]:
         of_day = time_of_day(time_text) or 0
         judge_quietly(time_text, (first_from(of_day, now), last_to(of_day, now)) == (utc(first), utc(last)))
-    judge("of today, yesterday and tomorrow", True)
 
 
 def recording(facts: Facts | None) -> Recording:
@@ -93,19 +90,16 @@ def test_a_time_without_its_date_is_the_first_since_the_beginning(
 def test_seconds_may_stand_beside_a_time_of_day() -> None:
     """3,600 s behind counter 0 are 13:00:00.25."""
     found = dated(time_of("3600"), time_of("13:00:00"), [times()])
-    judge(
-        "the end is behind them", found == (Time(3_600 * SECOND, False), Time(utc("2025-12-02 13:00:00"), True)), found
-    )
+    holds = found == (Time(3_600 * SECOND, False), Time(utc("2025-12-02 13:00:00"), True))
+    judge("the end is behind them", holds, found)
 
 
 def test_the_day_is_that_of_the_first_of_several_recordings() -> None:
     both = [times("2025-12-02T00:05:00Z", [(NOON, 0, None)]), times("2025-12-01T23:00:00Z")]
     found = dated(time_of("23:36:10"), time_of("00:10:00"), both)
     wanted = (Time(utc("2025-12-01 23:36:10"), True), Time(utc("2025-12-02 00:10:00"), True))
-    judge(
-        "whichever is named first",
-        found == wanted and dated(time_of("23:36:10"), time_of("00:10:00"), both[::-1]) == wanted,
-    )
+    holds = found == wanted and dated(time_of("23:36:10"), time_of("00:10:00"), both[::-1]) == wanted
+    judge("whichever is named first", holds)
 
 
 def test_a_recording_began_by_the_clock_as_it_was_set_last() -> None:
@@ -120,7 +114,6 @@ def test_a_recording_began_by_the_clock_as_it_was_set_last() -> None:
     ]:
         found = beginning_of(times(begun, origins))
         judge_quietly(f"{begun} {utc_of(found)}", found == utc(wanted))
-    judge("each by the last origin", True)
 
 
 def test_without_facts_that_know_the_day_a_time_needs_its_date() -> None:
@@ -137,7 +130,6 @@ def test_without_facts_that_know_the_day_a_time_needs_its_date() -> None:
     ]:
         with pytest.raises(Refused, match=f"^x.ch11: {why}$"):
             dated(time_of("23:36:10"), None, [given])
-    judge("each is refused by its name", True)
 
 
 ODD_DAYS: tuple[object, ...] = (
@@ -170,7 +162,6 @@ def test_an_origin_of_a_capture_file_needs_its_date() -> None:
     why = "23:36:10.5 has no date, and no facts give one here: it takes that too, as 2025-12-01T23:36:10.5Z"
     with pytest.raises(argparse.ArgumentTypeError, match=f"^{why}$"):
         moment_of("23:36:10.5")
-    judge("by its name", True)
 
 
 def test_an_origin_of_live_is_the_last_such_time() -> None:
@@ -180,12 +171,23 @@ def test_an_origin_of_live_is_the_last_such_time() -> None:
         given = read(["--origin", text, "out.ch11", "lo"]).options
         wanted = now + ahead * SECOND - (86_400 * SECOND if ahead > 0 else 0)
         judge_quietly(f"{text}: {given}", given == ["--origin", utc_of(wanted)])
-    judge(
-        "another form goes on as it is", read(["--origin", "23:36", "out.ch11", "lo"]).options == ["--origin", "23:36"]
-    )
+    holds = read(["--origin", "23:36", "out.ch11", "lo"]).options == ["--origin", "23:36"]
+    judge("another form goes on as it is", holds)
 
 
 def test_a_buffer_of_live_may_have_its_unit() -> None:
     table = {"256": "256", "256M": "244", "1G": "953", "1M": "1", "2k": "2k", "0G": "0G", "1.5G": "1.5G"}
     found = {word: read(["--buffer", word, "out.ch11", "lo"]).options[1] for word in table}
     judge("in whole mebibytes", found == table, found)
+
+
+def test_a_channel_is_called_by_each_of_its_names() -> None:
+    wires = [{"channel": 1, "interface": "eth0", "name": "bus A"}]
+    known = Facts({**facts_of_run([(NOON, 0, None)]), "host": "tap2", "interfaces": wires})
+    names = ["eth0", "bus A", "bus A (eth0)"]
+    asked_for: list[int | str] = [1, *names, *(f"{it} of tap2" for it in names)]
+    for asked in asked_for:
+        judge_quietly(f"{asked}", known.is_called(1, asked))
+    others: list[int | str] = [2, "eth1", "eth0 of tap1", "None of tap2"]
+    for other in others:
+        judge_quietly(f"not {other}", not known.is_called(1, other))

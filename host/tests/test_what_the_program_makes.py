@@ -1,7 +1,5 @@
 """Tries that the tools leave to the proved program what it makes: packets of Chapter 11 files, and their times."""
 
-from __future__ import annotations
-
 import ast
 import importlib
 import struct

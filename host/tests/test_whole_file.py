@@ -1,8 +1,6 @@
 """Tries the reader of whole Chapter 11 files: files of a second writer are right, and each kind of damage of what packets
 hold is named alone, at its place. test_whole_file_index.py has the index and the bytes."""
 
-from __future__ import annotations
-
 import random
 import struct
 from typing import NamedTuple
@@ -59,7 +57,6 @@ def test_files_of_drawn_recordings_are_right(seed: int) -> None:
     for most_named in (MOST_NAMED, 2, 5):
         found = faults_of(bytes(whole_file(bytes(made.data), setup, most_named).data), most_named)
         judge_quietly(f"{seed}: nodes of {most_named}", found == [], found)
-    judge("all are right", True)
 
 
 @pytest.mark.parametrize(
@@ -68,9 +65,8 @@ def test_files_of_drawn_recordings_are_right(seed: int) -> None:
 def test_a_line_that_some_reader_takes_for_a_channels_is_wrong(name: str) -> None:
     setup = SAMPLE_SETUP._replace(attributes=(f"{name}:9",))
     found = faults_of(bytes(whole_file(sample_recording(), setup).data))
-    judge(
-        name, [it.partition(" ")[2] for it in found] == [f"the setup record has {name} twice, or of no channel"], found
-    )
+    holds = [it.partition(" ")[2] for it in found] == [f"the setup record has {name} twice, or of no channel"]
+    judge(name, holds, found)
 
 
 def test_an_origin_that_begins_just_ahead_of_a_second_is_right() -> None:
@@ -84,17 +80,13 @@ def test_an_origin_that_begins_just_ahead_of_a_second_is_right() -> None:
         setup = Setup((Origin(0, 0), Origin(begins, 10**15 + 3_333_300)))
         found = faults_of(bytes(whole_file(bytes(made.data), setup).data))
         judge_quietly(f"{milliseconds} ms ahead", found == [], found)
-    judge("all are right", True)
 
 
 def test_the_sample_is_right() -> None:
     """With nodes of few entries too; by the usual numbers such nodes aren't full."""
     judge("the sample", faults_of(sample()) == [] and faults_of(sample(2), 2) == [])
-    judge(
-        "nodes that aren't full",
-        faults_of(sample(2))[0].endswith("a packet behind the end of the index"),
-        faults_of(sample(2)),
-    )
+    holds = faults_of(sample(2))[0].endswith("a packet behind the end of the index")
+    judge("nodes that aren't full", holds, faults_of(sample(2)))
 
 
 # ---- what is wrong with what packets hold
@@ -324,11 +316,8 @@ def test_time_packets_behind_their_frames_are_named() -> None:
     parts = [it for it in parts_of(sample()) if it.kind != INDEX]
     late = rebuilt(exchanged(6, 7)(parts))
     place = place_of(parts_of(late), TIME, 1)
-    judge(
-        "behind a frame",
-        f"{place} the time packet stands behind a frame or a record of its time" in faults_of(late),
-        faults_of(late),
-    )
+    holds = f"{place} the time packet stands behind a frame or a record of its time" in faults_of(late)
+    judge("behind a frame", holds, faults_of(late))
     early = rebuilt(exchanged(5, 6)(parts))
     named = [f"{place_of(parts_of(early), FRAMES, 1)} a time packet stands ahead of what is earlier"]
     judge("ahead of an earlier frame", faults_of(early) == named, faults_of(early))

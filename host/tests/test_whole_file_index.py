@@ -1,7 +1,5 @@
 """Tries the reader of whole Chapter 11 files on damage of the index and of bytes: each is named at its place."""
 
-from __future__ import annotations
-
 import random
 import struct
 from typing import NamedTuple
@@ -154,7 +152,6 @@ def test_packets_whose_bytes_are_wrong_are_named() -> None:
         found = faults_of(flipped(good, at))
         place = max(it for it in places_of(parts) if it <= at)
         judge_quietly(f"byte {at}", len(found) == 1 and found[0].startswith(f"{place} data checksum "), found)
-    judge("a packet whose data are wrong is named alone", True)
 
 
 def places_of(parts: list[Part]) -> list[int]:
@@ -192,7 +189,6 @@ def test_a_file_that_is_cut_is_named_at_the_packet_that_is_cut() -> None:
         place = max(it for it in places if it <= length)
         fault = f"{place} cut" if length not in places else " the file doesn't end with a root that names all"
         judge_quietly(f"cut to {length} bytes", any(it == fault or it.endswith(fault) for it in found), found)
-    judge("each cut is named", True)
 
 
 def test_hostile_files_end_in_seconds_and_without_a_fault_of_the_reader() -> None:
@@ -207,4 +203,3 @@ def test_hostile_files_end_in_seconds_and_without_a_fault_of_the_reader() -> Non
         counter = draw.choice([good[at].counter] * 9 + [0, 2**48 - 1, draw.randrange(2**48)])
         parts = [*good[:at], good[at]._replace(data=bytes(data), kind=kind, counter=counter), *good[at + 1 :]]
         faults_of(bytes_of(parts))
-    judge("none of them", True)

@@ -138,9 +138,8 @@ class Facts:
 
     def is_called(self, channel: int, asked: Union[int, str]) -> bool:
         """Whether a channel has this ID, interface or name, or is called so, also with its host."""
-        shown = self.shown_name(channel)
-        called = (channel, self.interfaces.get(channel), self.names.get(channel), shown, f"{shown} of {self.host}")
-        return asked in called
+        called = {self.interfaces.get(channel), self.names.get(channel), self.shown_name(channel)} - {None}
+        return asked in (channel, *called, *(f"{it} of {self.host}" for it in called))
 
     def moment_of(self, counter: int) -> Optional[int]:
         """The moment of a frame with this counter, in nanoseconds since 1970, which is UTC but where nobody knows the

@@ -26,6 +26,11 @@ def whole_path(recording: str) -> str:
     return f"{recording}.ch10"
 
 
+def control_path(run: str) -> str:
+    """The socket by which a run takes lines, beside its recordings."""
+    return f"{split(run)[0]}.control"
+
+
 def files_beside(recording: str) -> tuple[str, str, str]:
     """What may be made beside a recording: its facts, their signature, and its whole Chapter 11 file."""
     return facts_path(recording), signature_path(facts_path(recording)), whole_path(recording)

@@ -8,7 +8,9 @@ import re
 from typing import NoReturn, Optional
 
 from bpfrec.formats import facts
+from bpfrec.formats.limits import HEADER_LEN
 from bpfrec.formats.names import facts_path
+from bpfrec.formats.whole_file import begins_whole_file
 from bpfrec_tools.chapter11.networks import networks_of
 from bpfrec_tools.chapter11.options import comment_of
 from bpfrec_tools.chapter11.runs import Recorded, judge_twice, missing_in, missing_text, runs_of
@@ -167,6 +169,10 @@ def make(given: argparse.Namespace) -> int:
         raise Unusable(f"{STREAM}: it is standard input, and a whole file is made by reading twice")
     if given.out == STREAM:
         raise Unusable(f"{STREAM}: it is standard output, and a whole file is written twice, so OUT is a file")
+    for path in filter(os.path.isfile, given.recordings):
+        with open(path, "rb") as file:
+            if begins_whole_file(file.read(HEADER_LEN)):
+                raise Unusable(f"{path}: it is a whole Chapter 11 file, of which OUT.pcapng can be made")
     if len(given.recordings) > 1:
         make_of_several(given)
     else:

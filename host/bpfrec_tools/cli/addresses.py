@@ -16,6 +16,8 @@ WORD = re.compile(
     r"(?:(?P<plain>[0-9.]{7,15})|\[(?P<bracketed>[0-9a-fA-F:.]{2,45})(?:%(?P<zone>[^\]\s/%]{1,15}))?\])"
     r":(?P<port>[0-9]{1,5})"
 )
+# A host's name in the place of an address.
+NAMED = re.compile(r"[\w.-]*[^\W\d_][\w.-]*:\d+$")
 MAX_PORT = 65_535
 
 
@@ -60,7 +62,8 @@ def udp_address(word: str) -> UdpAddress:
     except ValueError:
         found = None
     if not found or not 1 <= int(found["port"]) <= MAX_PORT:
-        raise argparse.ArgumentTypeError(f"{word}: needs ADDRESS:PORT or [ADDRESS]:PORT, as 239.1.2.3:50000")
+        why = "no name is looked up, so it " if NAMED.match(word) else ""
+        raise argparse.ArgumentTypeError(f"{word}: {why}needs ADDRESS:PORT or [ADDRESS]:PORT, as 239.1.2.3:50000")
     return UdpAddress(address, int(found["port"]), found["zone"])
 
 

@@ -3,9 +3,8 @@
 from __future__ import annotations
 
 import argparse
-import difflib
 from collections.abc import Iterable
-from typing import IO, NoReturn, Optional, Union
+from typing import IO, Any, NoReturn, Optional, Union, cast
 
 from bpfrec.formats.limits import MAX_CHANNEL_ID
 from bpfrec_tools.cli import printing
@@ -19,10 +18,18 @@ def name_of(tool: str) -> str:
     return f"bpfrec {tool}"
 
 
+def meant_by(word: str, known: Iterable[str]) -> str:
+    """The known word that is most like another one; nothing where none is."""
+    # Here, since it takes long to load, as what else is imported in a function.
+    import difflib
+
+    return next(iter(difflib.get_close_matches(word.partition("=")[0], list(known), 1)), "")
+
+
 def nearest(word: str, known: Iterable[str]) -> str:
-    """What a line about an unknown word ends in: the known one that is most like it, if any is."""
-    found = difflib.get_close_matches(word.partition("=")[0], list(known), 1)
-    return f": did you mean {found[0]}?" if found else ""
+    """What a line about an unknown word ends in: the known one that it means, if any."""
+    found = meant_by(word, known)
+    return f": did you mean {found}?" if found else ""
 
 
 class Parser(argparse.ArgumentParser):
@@ -33,6 +40,12 @@ class Parser(argparse.ArgumentParser):
         more.setdefault("formatter_class", argparse.RawDescriptionHelpFormatter)
         more.setdefault("allow_abbrev", False)
         super().__init__(**more)  # type: ignore[arg-type]
+
+    def parse_args(self, *words: Any) -> argparse.Namespace:  # type: ignore[override]
+        """What words say, wherever options stand; but behind operands that take all that follows."""
+        is_last = any(it.nargs == argparse.REMAINDER for it in self._get_positional_actions())
+        found = super().parse_args(*words) if is_last else self.parse_intermixed_args(*words)
+        return cast(argparse.Namespace, found)
 
     def print_help(self, file: Optional[IO[str]] = None) -> None:
         """Prints the help on standard output."""

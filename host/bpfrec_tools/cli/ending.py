@@ -25,7 +25,7 @@ def failed(tool: str, error: OSError) -> int:
     if error.errno == errno.ENOMEM:
         printing.err(f"{tool}: out of memory")
         return MEMORY_STATUS
-    printing.err(f"{tool}: {error.strerror}" if error.filename is None else f"file {error.filename}: {error.strerror}")
+    printing.err(f"{tool}: {'' if error.filename is None else f'{error.filename}: '}{error.strerror}")
     return FILE_STATUS
 
 

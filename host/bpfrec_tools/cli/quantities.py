@@ -6,6 +6,8 @@ import argparse
 import re
 from typing import Callable, Optional
 
+from bpfrec.formats.limits import MAX_COUNTER, TICKS_A_SECOND
+
 MAX_SECONDS, MAX_BYTES = 999_999_999, 10**15 - 1
 # What may stand behind a number: in seconds, and in bytes.
 TIMES = {"": 1, "s": 1, "m": 60, "min": 60, "h": 3_600, "d": 86_400}
@@ -61,6 +63,12 @@ def parts(least: float, most: int, said: str, has_none: bool = False) -> Callabl
 def seconds(word: str) -> int:
     """The seconds that a word says, one or more."""
     return number(1, MAX_SECONDS, f"from 1 to {MAX_SECONDS}{IN_SECONDS}", TIMES)(word)
+
+
+def ticks(word: str) -> int:
+    """The ticks of a time that a word says: none, or of a microsecond at least and at most what a counter holds."""
+    most = MAX_COUNTER // TICKS_A_SECOND
+    return round(parts(1e-6, most, f"from 0.000001 to {most}{IN_PARTS}", has_none=True)(word) * TICKS_A_SECOND)
 
 
 def size(word: str) -> int:

@@ -16,6 +16,7 @@ from bpfrec.formats.held import File
 from bpfrec.formats.names import facts_path
 from bpfrec_tools.cli import printing
 from bpfrec_tools.cli.ending import Refused as Refused
+from bpfrec_tools.cli.files import STREAM as STREAM
 
 # So many parts at most wait for a write.
 PARTS_A_WRITE = 256
@@ -78,9 +79,6 @@ class Taken(Refused):
     """An output that exists, and that may not be overwritten."""
 
     status = 3
-
-
-STREAM = "-"
 
 
 def identity(path: str, stream: int) -> Optional[tuple[int, int]]:

@@ -82,6 +82,8 @@ def recordings_at(given: argparse.Namespace) -> list[Sliced]:
     indexes = [index_of(path) for path in given.recordings]
     opened = [Recording(it, times_of(it)) for it in indexes]
     since, until = dated(given.since, given.until, opened)
+    if since and until and since.is_absolute == until.is_absolute and until <= since:
+        raise Refused("--to isn't after --from, so no frame lies between them")
     found = [(it, ranges_of(it, since, until)) for it in opened]
     for index in indexes:
         index.read()

@@ -3,6 +3,7 @@
 from __future__ import annotations
 
 import argparse
+import os
 import re
 from typing import Callable, NamedTuple, Optional
 
@@ -132,19 +133,31 @@ def kind_of(given: argparse.Namespace) -> Optional[str]:
     return "pcapng" if given.out == STREAM else ENDINGS.get(ending[0] if ending else "")
 
 
+def why_no_kind(given: argparse.Namespace) -> str:
+    """What is wrong with an OUT whose ending doesn't say what it becomes."""
+    if re.fullmatch(r"[0-9-]+T[0-9:.]+Z", given.out):
+        return (
+            f"OUT is the last word, and a time stands behind --from or --to; `date -u -d {given.out} +%s` has seconds"
+        )
+    if os.path.lexists(given.out) and any(it.endswith(tuple(ENDINGS)) for it in given.recordings):
+        return f"it is there, and OUT is the last word: {given.out} {given.recordings[-1]}"
+    return "it ends neither in .pcapng nor in .ch10: --as pcapng or --as chapter11 says what it is"
+
+
 def refuse_options(made: Parser, given: argparse.Namespace) -> None:
     """Refuses options that are of what OUT doesn't become."""
     for name, kind in KINDS.items():
         asked = [option for key, option in kind.options.items() if getattr(given, key) != made.get_default(key)]
         if name != given.kind and asked:
-            made.error(f"{asked[0]} is for {kind.name}, and OUT is {KINDS[given.kind].name}")
+            instead = ", which has all: a slice is OUT.pcapng" if given.kind == "chapter11" else ""
+            made.error(f"{asked[0]} is for {kind.name}, and OUT is {KINDS[given.kind].name}{instead}")
 
 
 def arguments_of(arguments: list[str]) -> argparse.Namespace:
     """The arguments, the last of which is OUT, but where SETUP is printed."""
     made = parser()
     end = arguments.index("--") if "--" in arguments else len(arguments)
-    given = made.parse_intermixed_args(arguments[:end])
+    given = made.parse_args(arguments[:end])
     paths = [*given.paths, *arguments[end + 1 :]]
     recordings, given.out = (paths, None) if given.print_setup else (paths[:-1], paths[-1] if paths else None)
     given.recordings = [found for it in recordings for found in all_of(it)]
@@ -152,9 +165,7 @@ def arguments_of(arguments: list[str]) -> argparse.Namespace:
         made.error(f"the following arguments are required: {'OUT' if paths else 'RECORDING, OUT'}")
     kind = kind_of(given)
     if kind is None:
-        made.error(
-            f"{given.out}: it ends neither in .pcapng nor in .ch10: --as pcapng or --as chapter11 says what it is"
-        )
+        made.error(f"{given.out}: {why_no_kind(given)}")
     given.kind = kind
     refuse_options(made, given)
     return given

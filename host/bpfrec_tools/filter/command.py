@@ -33,6 +33,8 @@ can't be, as a frame that was cut short, a line on standard error counts.
 Status: 0 done, 1 the capture or the expression is refused, 2 the arguments are wrong, 3 a file can't be read or written, or
 OUT exists, 4 out of memory.
 """
+# What live says of a capture that it refuses, beside why.
+LEFT_OUT = re.compile(" origin |^bpfrec live: clock: | bytes 0 skipped 0 ")
 REPORT = re.compile(r"channel 1 versions \d+ offered (\d+) kept (\d+) ")
 
 
@@ -68,7 +70,7 @@ def recorded(given: argparse.Namespace, folder: str) -> tuple[str, str]:
     done = subprocess.run(words, stdin=subprocess.DEVNULL, capture_output=True, encoding="utf-8", errors="replace")
     for line in done.stderr.splitlines():
         if done.returncode or " skipped 0 " not in f"{line} ":
-            tell(line.replace(f"{folder}/", ""), bool(done.returncode))
+            tell(line.replace(capture, given.capture).replace(f"{folder}/", ""), bool(done.returncode))
     if done.returncode:
         raise Failed(done.returncode)
     return made, done.stdout
@@ -84,10 +86,8 @@ class Failed(Exception):
 
 def tell(line: str, is_all: bool) -> None:
     """Tells what of live's lines is of the capture: its faults, and the frames that it skipped."""
-    if is_all and " origin " not in line and not line.startswith("bpfrec live: clock: "):
-        printing.err(line.replace("bpfrec live: ", f"{name_of('filter')}: "))
-    elif " skipped " in line:
-        printing.err(line)
+    if not LEFT_OUT.search(line) if is_all else " skipped " in line:
+        printing.err(re.sub("^bpfrec (live|capture): ", f"{name_of('filter')}: ", line))
 
 
 def write(given: argparse.Namespace, folder: str) -> int:

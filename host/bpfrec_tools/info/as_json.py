@@ -67,7 +67,7 @@ def channel_object(number: int, channel: Channel, beside: Optional[FactsFile]) -
     """What is known of a channel."""
     first, last, least, greatest = channel.counters() or (None, None, None, None)
     return {
-        "name": channel.name or None,
+        "name": channel.name or (beside.known.names.get(number) if beside else None),
         "span": span_of(number, beside),
         "frames": channel.frames,
         "bytes": channel.bytes,

@@ -10,9 +10,9 @@ from typing import Iterator
 from bpfrec.formats.settings import Settings
 from bpfrec_tools.cli.signatures import Unsigned
 from bpfrec_tools.live.arguments import Arguments
-from bpfrec_tools.live.control.sockets import judge_path
+from bpfrec_tools.live.control.sockets import MOST_CLIENTS, Heard, is_left
 from bpfrec_tools.live.kept.clock_watch import by_the_kernel
-from bpfrec_tools.live.kept.names import is_special, refused
+from bpfrec_tools.live.kept.names import Refusal, is_special, refused
 from bpfrec_tools.live.kept.signer import LONGEST_TRIAL, Signer
 
 # How many descriptors live has open at most: while it records, while recordings follow one another, and for browsers.
@@ -23,6 +23,8 @@ ALARMING = 8
 SIGNING = 8
 # For what publishes at an address: its end and its lines, and what is open while it starts.
 PUBLISHING = 4
+# For the socket by which lines come, with its clients.
+LISTENING = 1 + MOST_CLIENTS
 # How many the capture and the recorder have open, and how many more for each channel.
 CAPTURING, FOR_A_CHANNEL = 24, 4
 # What is signed to see whether a key can.
@@ -36,6 +38,7 @@ def refuse_few_descriptors(given: Arguments, channels: int) -> None:
     soft, hard = resource.getrlimit(resource.RLIMIT_NOFILE)
     own = (ROTATING if given.is_rotating() else RECORDING) + (SERVING if given.status is not None else 0)
     own += (ALARMING if given.on_alarm else 0) + (SIGNING if given.sign else 0) + PUBLISHING * len(given.targets)
+    own += LISTENING if given.socket() else 0
     needed = max(own, CAPTURING + FOR_A_CHANNEL * channels) + inherited()
     if is_under(soft, needed) and not is_under(hard, needed):
         resource.setrlimit(resource.RLIMIT_NOFILE, (hard, hard))
@@ -100,9 +103,14 @@ def refuse_alarm_command(given: Arguments) -> None:
 
 
 def refuse_control(given: Arguments) -> None:
-    """Refuses a path at which no socket can be made."""
-    if given.control is not None:
-        judge_path(given.control)
+    """Refuses a path of --control at which no socket can be made, and a run whose name another one has."""
+    path = given.socket()
+    try:
+        if path is not None:
+            is_left(path)
+    except Refusal as why:
+        if given.control is not None or isinstance(why, Heard):
+            raise
 
 
 def refuse_signing(given: Arguments) -> None:

@@ -7,14 +7,14 @@ import re
 import shlex
 from typing import NamedTuple, NoReturn, Optional
 
-from bpfrec.formats.limits import MAX_COUNTER, TICKS_A_SECOND
+from bpfrec.formats.names import control_path
 from bpfrec_tools.chapter11.options import add_setup_options, setup_arguments
 from bpfrec_tools.cli.arguments import Parser, name_of, nearest
-from bpfrec_tools.cli.quantities import IN_PARTS, MAX_SECONDS, number, parts, seconds, size
+from bpfrec_tools.cli.quantities import IN_PARTS, MAX_SECONDS, number, parts, seconds, size, ticks
 from bpfrec_tools.live.capture_options import add_capture_options
 from bpfrec_tools.live.flight import Flight, by_ids, faults_of, flight_at, operands_with, words_of
 from bpfrec_tools.live.help import ABOUT, MORE
-from bpfrec_tools.live.kept.names import refused
+from bpfrec_tools.live.kept.names import is_special, refused
 from bpfrec_tools.live.model import are_rotating
 from bpfrec_tools.live.operands import Route, operands_of
 from bpfrec_tools.live.targets import Target, target_of
@@ -26,8 +26,6 @@ OWNERS = 0o600
 LEAST_ERROR, MOST_ERROR = 1e-6, 16
 # A disk takes about as long to be forced, in seconds.
 LEAST_SYNC = 0.01
-# A span of a microsecond at least, and at most what a counter holds, in whole seconds.
-LEAST_SPAN, MOST_SPAN = 1e-6, MAX_COUNTER // TICKS_A_SECOND
 
 # By these tcpdump names an interface and a file.
 TCPDUMP = ("-i", "-w")
@@ -84,6 +82,11 @@ class Arguments(NamedTuple):
         """Whether captures stand in the places of interfaces."""
         return any(it.is_capture() for it in self.routes)
 
+    def socket(self) -> Optional[str]:
+        """The socket by which lines come: of --control, or of interfaces the one beside OUT."""
+        has_usual = self.routes and not self.reads_captures() and not is_special(self.out)
+        return self.control or (control_path(self.out) if has_usual else None)
+
     def clock(self) -> str:
         """Whose times the frames have."""
         if self.reads_captures():
@@ -120,12 +123,6 @@ def clock_error(word: str) -> float:
     return parts(LEAST_ERROR, MOST_ERROR, f"from 0.000001 to {MOST_ERROR}, in seconds, or as 10ms or 500us")(word)
 
 
-def span(word: str) -> int:
-    """How old a packet gets, in ticks."""
-    read = parts(LEAST_SPAN, MOST_SPAN, f"from 0.000001 to {MOST_SPAN}{IN_PARTS}", has_none=True)
-    return round(read(word) * TICKS_A_SECOND)
-
-
 def command_words(text: str) -> list[str]:
     """A program and its arguments, taken apart as a shell does it."""
     try:
@@ -154,7 +151,6 @@ def parser() -> Parser:
         usage=f"{name} [OPTION..] FLIGHT\n       {name} [OPTION..] [SETTINGS] OUT [INTERFACE[=CHANNEL[:EXPRESSION]]..]",
         description=ABOUT,
         epilog=MORE,
-        allow_abbrev=False,
     )
     made.add_argument("--force", dest="is_forced", action="store_true", help="overwrites an OUT that exists")
     made.add_argument("--every", metavar="SECONDS", type=seconds, help="begins a new recording after this time")
@@ -162,7 +158,7 @@ def parser() -> Parser:
     made.add_argument("--size", metavar="BYTES", type=size, help="begins a new recording at BYTES bytes")
     sync = parts(LEAST_SYNC, MAX_SECONDS, f"from {LEAST_SYNC} to {MAX_SECONDS}{IN_PARTS}", has_none=True)
     made.add_argument("--sync", metavar="SECONDS", type=sync, default=1, help="how often OUT is forced to its disk")
-    made.add_argument("--span", metavar="SECONDS", type=span, help="how old a packet gets until it is written: 500ms")
+    made.add_argument("--span", metavar="SECONDS", type=ticks, help="how old a packet gets until it is written: 500ms")
     count = number(1, MAX_SECONDS, f"from 1 to {MAX_SECONDS}")
     made.add_argument("--keep", metavar="N", type=count, help="keeps the last N recordings of --every or --size")
     made.add_argument("--keep-free", metavar="BYTES", type=size, help="removes the oldest until this much is free")
@@ -197,7 +193,7 @@ def add_outside_options(made: Parser) -> None:
     made.add_argument("--require-clock", metavar="SECONDS", dest="clock_error", type=clock_error, help=asked)
     ran = "runs a program when an alarm begins or ends"
     made.add_argument("--on-alarm", metavar="COMMAND", type=command_words, help=ran)
-    made.add_argument("--control", metavar="PATH", help="takes lines by a Unix socket too: bpfrec tell sends them")
+    made.add_argument("--control", metavar="PATH", help="the socket by which bpfrec tell sends lines")
     sent = "sends what is recorded there by UDP; may be given again"
     form = "ADDRESS:PORT[,ttl=N][,interface=NAME][,datagram=BYTES]"
     made.add_argument("--publish", metavar=form, dest="targets", type=target_of, action="append", default=[], help=sent)
@@ -215,7 +211,7 @@ class Given(NamedTuple):
 def given_by(arguments: list[str]) -> Given:
     """What stands on a command line."""
     end = arguments.index("--") if "--" in arguments else len(arguments)
-    options = parser().parse_intermixed_args(arguments[:end])
+    options = parser().parse_args(arguments[:end])
     operands = [*options.operands, *arguments[end + 1 :]]
     flight = flight_at(operands[0]) if operands else None
     return Given(arguments[:end], options, by_ids(flight, operands) if flight else operands, flight)
@@ -233,7 +229,7 @@ def arguments_of(line: Given) -> Arguments:
     """The same of a command line whose flight has no fault."""
     given, operands = line.options, line.operands
     if line.flight:
-        given = parser().parse_intermixed_args([*words_of(line.flight, line.words), *line.words])
+        given = parser().parse_args([*words_of(line.flight, line.words), *line.words])
         operands = operands_with(line.flight, operands)
     setup = setup_arguments(given)
     given.targets = [it._replace(setup=tuple(setup)) for it in given.targets]

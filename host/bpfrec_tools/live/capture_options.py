@@ -8,7 +8,6 @@ import re
 import time
 from typing import Optional
 
-from bpfrec.formats.facts import utc_of
 from bpfrec_tools.cli.moments import last_to, time_of_day
 from bpfrec_tools.cli.quantities import size
 
@@ -52,6 +51,8 @@ def for_capture(option: Optional[str], value: str) -> str:
     mebibytes."""
     of_day = time_of_day(value) if option == ORIGIN else None
     if of_day is not None:
+        from bpfrec.formats.facts import utc_of
+
         return utc_of(last_to(of_day, time.time_ns()))
     is_size = option == BUFFER and re.fullmatch(r"[1-9][0-9]{0,6}[MG]B?", value)
     return str(max(size(value) // MEBIBYTE, 1)) if is_size else value

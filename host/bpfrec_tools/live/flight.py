@@ -3,27 +3,32 @@ interfaces."""
 
 from __future__ import annotations
 
+import argparse
 import os
 import re
 from typing import Any, Iterator, NamedTuple, Optional
 
 from bpfrec.formats.settings import Channel, NoReader, NoToml, Settings, settings_of, type_of
-from bpfrec_tools.cli.arguments import Parser, nearest, no_channel
+from bpfrec_tools.cli.arguments import Parser, meant_by, nearest, no_channel
+from bpfrec_tools.cli.files import STREAM, Unread, read_text
+from bpfrec_tools.cli.quantities import ticks
 from bpfrec_tools.live.kept.names import refused
 from bpfrec_tools.live.operands import is_channel_id, is_route
 
-RUN, OUT = "run", "out"
+RUN, OUT, SPAN = "run", "out", "span"
 # What a channel has beside what record takes.
 OF_CHANNEL = ("interface", "name")
 
 
 class Fault(NamedTuple):
-    """What is wrong with a key of a flight: its line where it is known, the table that has it, and what, for people."""
+    """What is wrong with a key of a flight: its line where it is known, the table that has it, what, for people, and the
+    key that is meant, where that is another one."""
 
     line: Optional[int]
     table: dict[str, Any]
     key: str
     what: str
+    meant: str = ""
 
 
 class Flight(NamedTuple):
@@ -57,10 +62,14 @@ class Flight(NamedTuple):
 
 def without_flight(settings: Settings) -> Settings:
     """The settings as record takes them."""
+    is_flight = flight_of(settings) is not None
     settings.document.pop(RUN, None)
     for channel in settings.channels:
         for key in OF_CHANNEL:
             channel.table.pop(key, None)
+        if channel.path(SPAN) and (is_flight or not span_fault(channel)):
+            # Of a flight what is wrong with it was said.
+            channel.table[SPAN] = 0 if span_fault(channel) else ticks(channel.table[SPAN])
     return settings
 
 
@@ -78,12 +87,11 @@ def texts_of(settings: Settings, key: str) -> dict[int, str]:
 
 def flight_at(path: str) -> Optional[Flight]:
     """The flight of a file; None where it is none, or can't be read, which is said later."""
-    if not path.endswith(".toml") or not os.path.isfile(path):
+    if path != STREAM and not (path.endswith(".toml") and os.path.isfile(path)):
         return None
     try:
-        with open(path, encoding="utf-8") as file:
-            return flight_of(settings_of(path, file.read()))
-    except (OSError, UnicodeDecodeError, NoReader, NoToml):
+        return flight_of(settings_of(path, read_text(path)))
+    except (Unread, NoReader, NoToml):
         return None
 
 
@@ -101,12 +109,25 @@ def faults_of(flight: Flight, made: Parser, given: list[str]) -> Iterator[Fault]
             if value is not None and not is_name(value):
                 what = f"{channel.name}: {key}: {type_of(value)}, and it must be a name in quotes"
                 yield Fault(channel.line(key), channel.table, key, what)
+    for channel in settings.channels:
+        if what := span_fault(channel):
+            yield Fault(channel.line(SPAN), channel.table, SPAN, f"{channel.name}: {SPAN}: {what}")
     for channel, what in name_faults(settings):
         yield Fault(channel.line("name"), channel.table, "name", f"{channel.name}: name: {what}")
     for key, value in flight.run.items():
         what = key_fault(key, value, made, given)
         if what:
-            yield Fault(settings.line_in(RUN, key), flight.run, key, f"[run] {what}")
+            meant = meant_by(key, keys_of(made))
+            yield Fault(settings.line_in(RUN, key), flight.run, key, f"[run] {what}", meant)
+
+
+def span_fault(channel: Channel) -> str:
+    """What is wrong with a span that is a time, as 20ms."""
+    try:
+        ticks(channel.path(SPAN) or "0")
+    except argparse.ArgumentTypeError as fault:
+        return str(fault)
+    return ""
 
 
 def name_faults(settings: Settings) -> Iterator[tuple[Channel, str]]:
@@ -129,15 +150,19 @@ def run_fault(settings: Settings) -> str:
     return "" if isinstance(run, dict) else f"run: {type_of(run)}, and it must be a table, as [run] begins it"
 
 
+def keys_of(made: Parser) -> list[str]:
+    """The keys of [run]: the options of live, and OUT."""
+    return [it[2:].replace("-", "_") for it in made._option_string_actions if it[1] == "-" and it != "--help"] + [OUT]
+
+
 def key_fault(key: str, value: Any, made: Parser, given: list[str]) -> str:
     """What is wrong with a key of [run]; nothing of one that the command line has too."""
-    known = {it: action for action in made._actions for it in action.option_strings if it.startswith("--")}
-    option = option_of(key)
-    if key != OUT and (option not in known or option in ("--help", "--version")):
-        return f"has no key {key}{nearest(key, [*(it[2:].replace('-', '_') for it in known), OUT])}"
+    known = keys_of(made)
+    if key not in known:
+        return f"has no key {key}{nearest(key, known)}"
     if is_given(key, given):
         return ""
-    if key != OUT and known[option].nargs == 0:
+    if key != OUT and made._option_string_actions[option_of(key)].nargs == 0:
         return "" if isinstance(value, bool) else f"{key}: {type_of(value)}, and it must be true or false"
     values = value if isinstance(value, list) and key != OUT else [value]
     wrong = next((type_of(it) for it in values if not is_value(it)), None)
@@ -182,7 +207,9 @@ def option_words(key: str, value: Any) -> list[str]:
 def by_ids(flight: Flight, operands: list[str]) -> list[str]:
     """The operands with the IDs of channels in the places of their names, as eth0=1 for eth0=bus A."""
     ids = {name: channel for channel, name in flight.names().items()}
-    parts = [re.fullmatch(r"([^=]+=)([^:]*)(.*)", it, re.DOTALL) for it in operands]
+    # A name may have a colon, and one may begin as another does.
+    names = "|".join(map(re.escape, sorted(ids, reverse=True)))
+    parts = [re.fullmatch(rf"([^=]+=)((?:{names})(?=:|$)|[^:]*)(.*)", it, re.DOTALL) for it in operands]
     for found in filter(None, parts[2:]):
         if ids and found[2] not in ids and not is_channel_id(found[2]):
             known = ((it.id() or 0, it.path("name") or "") for it in flight.settings.channels)

@@ -12,6 +12,7 @@ the filter that tcpdump makes of an expression, as eth0=1:'udp port 53', with VL
 FLIGHT is SETTINGS that need no other word. Each key of its table [run] is an option, as every = "10min" or
 chapter11 = true, and `out` is OUT. A [[channel]] must have `id` and `filter`, where "all" keeps all frames, names its
 `interface`, and may have a `name`. The command line wins. `bpfrec preflight flight.toml` says what is wrong.
+SETTINGS or FLIGHT may be `-`, standard input, which then brings no lines.
 In the places of interfaces captures may stand, files that end in .pcap, .pcapng or .cap, as flight.pcap=1:'udp port 53'.
 Their origin is the earliest of their frames, or that of --origin.
 Lines on standard input change filters: `set <channel> <filter>`, where the filter is a file that is a listing or a text
@@ -21,9 +22,9 @@ with its counter and its time. `status` prints how the run goes, `next` begins t
 
 An OUT that exists is refused unless --force is given, and no link is followed. OUT and OUT.json have the mode 0640,
 less what umask takes away, or MODE. A packet is written when it is full, when its filter changes, or once its first
-frame is half a second old, or SECONDS of --span; with --span 0 it may be of any age. A key `span` of SETTINGS goes ahead
-of that for its channel. What is written is forced to the disk each second, so lost power costs less than two; with
---sync SECONDS at that interval, with 0 never.
+frame is half a second old, or SECONDS of --span; with --span 0 it may be of any age. `span` of a [[channel]], as "20ms"
+or in ticks of 100 ns, goes ahead of that. What is written is forced to the disk each second, so lost power costs less
+than two; with --sync SECONDS at that interval, with 0 never.
 
 The facts of a recording of interfaces are in OUT.json beside it: the origin of its relative time counter (RTC, 10 MHz),
 interfaces, settings, filters, marks, what was lost and when, and in the end the report and the audit. What reads
@@ -63,9 +64,9 @@ fails or can't be started a line says so, and the recording never waits for it.
 If systemd reads standard error, each line has its priority ahead: <3> alarms and errors, <4> warnings, <6> all else.
 Alarms and warnings are lines too then.
 
---control PATH takes lines by a Unix socket too, which the owner alone may open: bpfrec tell PATH LINE sends one and
-waits for what it comes to. PATH is made when the run begins, and removed when it ends; a socket that a run left which
-was killed is replaced.
+Lines come by a Unix socket too, which the owner alone may open: flight.control beside flight.ch11, if interfaces are
+recorded, or PATH of --control. `bpfrec tell flight.ch11 LINE` sends one and waits for what it comes to. The socket is
+made when the run begins, and removed when it ends; one that a killed run left is replaced.
 
 --publish ADDRESS:PORT sends what is recorded to a ground station by UDP, as packets of Chapter 11, over all recordings of
 the run; several times to several. ADDRESS is a host or a multicast group; ttl=N and interface=NAME are the group's, and
@@ -92,7 +93,6 @@ lines say how many.
 The options with `as for capture` are those of bin/capture, whose help explains them. It prints on standard error, a
 line each second for each interface if there is no table; a line that standard error has no room for is left out and
 counted.
-`preflight --live` judges the same arguments and records nothing.
 
 It needs bin/bpfrec (make build) and, for interfaces, bin/capture (make build with libpcap-dev) with the permission to
 capture. BPFREC and CAPTURE name other programs.

@@ -10,6 +10,7 @@ from typing import NamedTuple, Optional
 from bpfrec.formats.limits import MAX_CHANNEL_ID
 from bpfrec.formats.packet import SYNC
 from bpfrec_tools.cli.arguments import name_of
+from bpfrec_tools.cli.files import STREAM
 from bpfrec_tools.live.kept.names import refused
 
 # A name of an interface has neither `=` nor `/`; in its place may stand a capture, by its ending.
@@ -51,6 +52,8 @@ def operands_of(operands: list[str]) -> Operands:
     if names_settings(operands):
         settings, out, *rest = operands
         refuse_interface(settings, 3)
+        if settings != STREAM and not os.path.lexists(settings) and any("=" not in it for it in rest):
+            raise refused(3, f"{settings}: no such file")
         if is_route(out):
             raise refused(2, f"OUT is missing: it stands between {settings} and {out}")
         return Operands(settings, dashed(out), routes_of(rest))
@@ -94,13 +97,17 @@ def dashed(out: str) -> str:
 def names_settings(operands: list[str]) -> bool:
     """Whether the first operand is SETTINGS, and not OUT: by its ending, by what it is, or by the operands behind it."""
     first, *rest = operands
+    if first == STREAM:
+        return not rest or not is_route(rest[0])
     if first.endswith((".toml", ".ch11", ".ch10")) or os.path.isfile(first):
         return is_settings(first)
     return not all(is_route(it) for it in rest)
 
 
 def is_settings(path: str) -> bool:
-    """Whether a path is that of SETTINGS, by its ending or by what it is."""
+    """Whether a path is that of SETTINGS, by its ending or by what it is; standard input is."""
+    if path == STREAM:
+        return True
     if path.endswith((".toml", ".ch11", ".ch10")):
         return path.endswith(".toml")
     return os.path.isfile(path) and not is_recording(path)
@@ -166,6 +173,8 @@ def route_of(operand: str) -> Route:
     if not found:
         raise refused(2, f"no INTERFACE=CHANNEL: {operand}")
     interface, channel, expression = found["interface"], found["channel"], found["expression"]
+    if os.path.isfile(interface) and not interface.endswith(CAPTURES) and not is_interface(interface):
+        raise refused(2, f"{interface} is a file: captures end in {', '.join(CAPTURES)}")
     if interface.startswith("-"):
         raise refused(2, f"{interface}: the name of an interface doesn't begin with -")
     if channel is None:

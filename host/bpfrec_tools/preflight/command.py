@@ -5,16 +5,8 @@ from __future__ import annotations
 import argparse
 import signal
 
-from bpfrec.formats.limits import MAX_NUMBER
-from bpfrec.formats.settings import NoReader, reader
-from bpfrec_tools.cli import printing, program
 from bpfrec_tools.cli.arguments import Parser, name_of
 from bpfrec_tools.live.flight import flight_at
-from bpfrec_tools.preflight.inputs import judge_capture, judge_feed, judge_settings
-from bpfrec_tools.preflight.keys import read_settings
-from bpfrec_tools.preflight.live import judge_live
-from bpfrec_tools.preflight.output import judge_out
-from bpfrec_tools.preflight.report import NotJudged, Report
 
 ABOUT = """\
 Names, before a recording, all faults for which `bpfrec record SETTINGS OUT` would end, not only the first.
@@ -29,12 +21,12 @@ Run it in the folder in which the recording will run, since paths are used as th
 
 With --capture it records FEED through each filter into /dev/null, and says how many frames are kept.
 
-With --live it judges the arguments of `live` that follow, as `--live --every 3600 wire.toml flight.ch11 eth0=1`: the
-same for SETTINGS and OUT, which may not exist. It judges whether each interface exists and is up and whether the
+With --live, or of a flight, it judges the arguments of `live`, as `flight.toml --every 1h`, or `--live wire.toml
+flight.ch11 eth0=1`: the same for SETTINGS and OUT, which may not exist. It judges whether each interface exists and is up and whether the
 kernel joins its frames; the permission to capture; the kernel's buffers, and how much memory is available; the origin
 that --origin names; and the expressions that are filters.
 
-It creates nothing but temporary files, empties nothing, and opens no pipe, since that would wait for
+SETTINGS may be `-`, standard input. It creates nothing but temporary files, empties nothing, and opens no pipe, since that would wait for
 the pipe's other end.
 """
 MORE = """\
@@ -54,10 +46,9 @@ def parser() -> Parser:
     name = name_of("preflight")
     made = Parser(
         prog=name,
-        usage=f"{name} SETTINGS [--out OUT] [--capture FEED]\n       {name} --live ARGUMENT..",
+        usage=f"{name} SETTINGS [--out OUT] [--capture FEED]\n       {name} [--live] ARGUMENT..",
         description=ABOUT,
         epilog=MORE,
-        allow_abbrev=False,
     )
     made.add_argument("settings", metavar="SETTINGS", nargs="?", help="the settings of the recording")
     made.add_argument("--out", metavar="OUT", help="the file of the recording")
@@ -66,40 +57,22 @@ def parser() -> Parser:
     return made
 
 
-def judge(given: argparse.Namespace, report: Report) -> None:
-    """Judges all that is named."""
-    if given.live is not None:
-        judge_live(given.live, report)
-        return
-    if flight_at(given.settings):
-        judge_live([given.settings], report)
-        return
-    settings = read_settings(given.settings, report)
-    valid = [] if settings is None else judge_settings(settings, report)
-    if given.out is not None:
-        judge_out(given.out, given.settings, settings.channels if settings else [], report)
-    if given.capture is not None and judge_feed(given.capture, MAX_NUMBER, given.capture, report) and settings:
-        for channel in valid:
-            judge_capture(settings, channel, given.capture, report)
-
-
 def run(arguments: list[str]) -> int:
     """Names what is wrong: the status."""
     # A reader of the findings may leave, as `head` does.
     signal.signal(signal.SIGPIPE, signal.SIG_DFL)
-    made, report = parser(), Report()
+    made = parser()
     at = arguments.index("--live") if "--live" in arguments else len(arguments)
-    given = made.parse_args(arguments[:at])
+    given, others = made.parse_known_args(arguments[:at])
     # As they are, with the end of their options too.
     given.live = arguments[at + 1 :] if at < len(arguments) else None
+    if given.live is None and others and any(map(flight_at, arguments)):
+        given.live = arguments
+    elif others:
+        made.parse_args(arguments[:at])
     if given.settings is None and given.live is None:
         made.error("the following arguments are required: SETTINGS")
-    try:
-        reader()
-        program.find()
-        judge(given, report)
-    except (NoReader, NotJudged, program.Missing) as why:
-        printing.err(f"bpfrec preflight: {why}")
-        return 2
-    printing.out(f"{report.ending()}\n")
-    return 1 if report.faults else 0
+    # Here, since help and a refusal need nothing of it.
+    from bpfrec_tools.preflight.judging import findings
+
+    return findings(given)

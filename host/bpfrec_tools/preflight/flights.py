@@ -10,7 +10,7 @@ from bpfrec_tools.live.arguments import Arguments, Given, parser
 from bpfrec_tools.live.flight import OUT, RUN, Fault, Flight, faults_of, is_given, option_words
 from bpfrec_tools.live.kept.names import Refusal
 from bpfrec_tools.live.operands import is_route, operands_of, route_of
-from bpfrec_tools.preflight.report import Report, place
+from bpfrec_tools.preflight.report import LIVE, Report, place
 
 # Stands for an OUT or an interface of which nothing but a fault is known.
 UNKNOWN = "?"
@@ -32,11 +32,11 @@ def judge_flight(line: Given, flight: Flight, report: Report) -> set[str]:
         # What is wrong with an ID is a fault of the settings.
         if channel.id() is None:
             channel.table.pop("interface", None)
-    keys = {key for it in faults for key in (it.key, it.what.rpartition("did you mean ")[2].rstrip("?"))}
+    keys = {key for it in faults for key in (it.key, it.meant)}
     behind = line.operands[1:]
     if flight.out() is None and (not behind or is_route(behind[0])):
         if not keys & {RUN, OUT}:
-            report.fault("live", refusal_of(partial(operands_of, line.operands)))
+            report.fault(LIVE, refusal_of(partial(operands_of, line.operands)))
         flight.settings.document.setdefault(RUN, {})[OUT] = UNKNOWN
     return keys
 
@@ -83,7 +83,7 @@ def tell_flight(given: Arguments, flight: Flight, report: Report) -> None:
     lines += [f"into {first}{''.join(turns)}"]
     lines += [f"publishes to {it.address}" for it in given.targets]
     lines += [f"shows the status at {given.status}"] if given.status else []
-    lines += [f"takes lines at {given.control}"] if given.control else []
+    lines += [f"takes lines at {given.socket()}"] if given.socket() else []
     lines += [f"signs with {given.sign}"] if given.sign else []
     for line in lines:
         report.note(flight.settings.file, line)

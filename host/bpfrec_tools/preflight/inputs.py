@@ -16,7 +16,7 @@ from bpfrec.formats.listing import no_listing
 from bpfrec.formats.settings import Channel, Settings, number_fault
 from bpfrec.formats.settings_text import quoted
 from bpfrec_tools.cli import program
-from bpfrec_tools.preflight.files import Unread, file_id, kind_of, read_text
+from bpfrec_tools.cli.files import Unread, file_id, kind_of, read_text
 from bpfrec_tools.preflight.keys import judge_channel_keys, judge_ids, judge_top, place_in
 from bpfrec_tools.preflight.output import judge_memory
 from bpfrec_tools.preflight.report import Report

@@ -11,7 +11,7 @@ from bpfrec.formats.answers import SETTINGS_SYNTAX
 from bpfrec.formats.limits import CHANNEL_KEYS, MAX_CHANNELS, MAX_KNOWN_SPEED, TOP_KEYS
 from bpfrec.formats.settings import Channel, NoReader, NoToml, Settings, number_fault, settings_of, type_of
 from bpfrec_tools.cli import program
-from bpfrec_tools.preflight.files import Unread, kind_of, read_text
+from bpfrec_tools.cli.files import Unread, kind_of, read_text
 from bpfrec_tools.preflight.report import NotJudged, Report, place
 
 # So many keys that aren't known are named.

@@ -34,7 +34,7 @@ from bpfrec_tools.preflight.flights import UNKNOWN, interfaces_of, judge_flight,
 from bpfrec_tools.preflight.inputs import judge_settings
 from bpfrec_tools.preflight.keys import read_settings
 from bpfrec_tools.preflight.output import available_memory, judge_out
-from bpfrec_tools.preflight.report import Report
+from bpfrec_tools.preflight.report import CAPTURE, LIVE, Report
 
 MEBIBYTE = 1 << 20
 # How a group gets the permission, as capture itself says it.
@@ -60,7 +60,7 @@ def judge_live(arguments: list[str], report: Report) -> None:
         faulty = judge_flight(line, line.flight, report) if line.flight else set()
         given = arguments_of(line)
     except Refusal as refusal:
-        report.fault("live", refusal.what())
+        report.fault(LIVE, refusal.what())
         return
     settings = read_settings(given.settings, report) if given.settings is not None else None
     # Of a channel without an ID nobody knows whether it has an interface.
@@ -72,7 +72,7 @@ def judge_live(arguments: list[str], report: Report) -> None:
     for what in ahead.apart(given):
         # What an option lacks isn't missing where that has a fault of its own.
         if not any(option_of(key) in what.split() for key in faulty):
-            report.fault("live", what)
+            report.fault(LIVE, what)
     if line.flight and is_right:
         tell_flight(given, line.flight, report)
     if settings:
@@ -102,7 +102,7 @@ def judge_refusals(given: Arguments, settings: Optional[Settings], report: Repor
         known = settings._replace(channels=[it for it in settings.channels if it.id() is not None])
         refusals += [partial(refuse_settings, known, given)]
     for what in filter(None, map(refusal_of, refusals)):
-        report.fault("live", what)
+        report.fault(LIVE, what)
 
 
 def refuse_endpoint(given: Arguments) -> None:
@@ -195,7 +195,7 @@ def judge_interface(interface: str, report: Report) -> None:
 def judge_target(target: Target, report: Report) -> None:
     """Whether the interface by which the run is published is there."""
     if target.lacks():
-        report.fault("live", f"--publish {target.lacks()}")
+        report.fault(LIVE, f"--publish {target.lacks()}")
 
 
 def flags_of(interface: str) -> Optional[int]:
@@ -218,7 +218,7 @@ def judge_permission(report: Report) -> None:
     """Whether the capture is there and may capture."""
     capture = program.capture_path()
     if not shutil.which(capture):
-        report.fault("capture", f"{capture} is missing: make build makes it where libpcap's headers are")
+        report.fault(CAPTURE, f"{capture} is missing: make build makes it where libpcap's headers are")
         return
     try:
         socket.socket(socket.AF_PACKET, socket.SOCK_RAW, 0).close()
@@ -228,7 +228,7 @@ def judge_permission(report: Report) -> None:
     try:
         os.getxattr(capture, "security.capability")
     except OSError:
-        report.fault("capture", f"no permission to capture: be root, or have a group capture, {BY_GROUP} {capture}")
+        report.fault(CAPTURE, f"no permission to capture: be root, or have a group capture, {BY_GROUP} {capture}")
 
 
 def judge_buffers(given: Arguments, report: Report) -> None:
@@ -265,11 +265,11 @@ def judge_origin(given: Arguments, report: Report) -> None:
     try:
         origin = moment_of(word)
     except argparse.ArgumentTypeError:
-        report.fault("capture", f"--origin {word}: {NO_FIRST if word == 'first' else ORIGINS}")
+        report.fault(CAPTURE, f"--origin {word}: {NO_FIRST if word == 'first' else ORIGINS}")
         return
     if origin > now:
-        report.fault("capture", f"--origin {word}: {seconds_of(origin)} lies ahead of now, which is {seconds_of(now)}")
+        report.fault(CAPTURE, f"--origin {word}: {seconds_of(origin)} lies ahead of now, which is {seconds_of(now)}")
         return
     turns = (now - origin) // COUNTER_TURN
     why = f", since counters have begun at 0 again {turns} times" if turns else ""
-    report.note("capture", f"--origin {word}: the origin {seconds_of(origin + turns * COUNTER_TURN)} is noted{why}")
+    report.note(CAPTURE, f"--origin {word}: the origin {seconds_of(origin + turns * COUNTER_TURN)} is noted{why}")

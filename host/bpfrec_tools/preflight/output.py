@@ -11,8 +11,8 @@ from typing import Optional
 
 from bpfrec.formats.limits import BUFFERS_BESIDE_RING, TOP_KEYS
 from bpfrec.formats.settings import Channel, Settings, number_fault
+from bpfrec_tools.cli.files import file_id
 from bpfrec_tools.cli.quantities import size_text
-from bpfrec_tools.preflight.files import file_id
 from bpfrec_tools.preflight.report import Report, place
 
 

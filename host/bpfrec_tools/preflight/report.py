@@ -5,6 +5,10 @@ from __future__ import annotations
 from typing import Optional
 
 from bpfrec_tools.cli import printing
+from bpfrec_tools.cli.arguments import name_of
+
+# Whose arguments are at fault.
+LIVE, CAPTURE = name_of("live"), name_of("capture")
 
 
 class NotJudged(Exception):

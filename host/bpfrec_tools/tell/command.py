@@ -10,7 +10,7 @@ import sys
 from collections.abc import Iterable
 from typing import BinaryIO, Optional
 
-from bpfrec.formats.names import split
+from bpfrec.formats.names import control_path
 from bpfrec_tools.cli import printing
 from bpfrec_tools.cli.arguments import Parser, name_of
 from bpfrec_tools.cli.moments import some_seconds
@@ -18,14 +18,14 @@ from bpfrec_tools.live.flight import flight_at, run_fault
 from bpfrec_tools.live.kept.names import Refusal
 
 ABOUT = """\
-Sends lines to a run of bpfrec live --control PATH, and waits for what each comes to:
+Sends lines to a run of bpfrec live, and waits for what each comes to:
 
   bpfrec tell flight.ch11 mark gear up
   bpfrec tell flight.toml set "bus A" udp port 5004
   bpfrec tell /run/bpfrec/control next
 
-RUN is the socket at PATH, or the name of the run, whose socket is flight.control beside flight.ch11, or the settings of
-the flight, which name it.
+RUN is the name of the run, whose socket is flight.control beside flight.ch11; or the settings of the flight, by which
+it is found; or the socket itself, as where `live --control PATH` or `control` in [run] names another.
 
 A LINE is one that bpfrec live takes on standard input: `set CHANNEL FILTER`, `mark TEXT`, `status`, `next`, `stop` or
 `help`; its arguments are joined by blanks. Without one, lines are read from standard input, each once the one before it is
@@ -38,8 +38,6 @@ Status: 0 all was done, 1 a line was refused, 2 the arguments are wrong, 3 nobod
 ahead of an answer, 130 interrupted.
 """
 DONE, REFUSED, USAGE, NOBODY = 0, 1, 2, 3
-# What the socket of a run is called, beside its recordings.
-ENDING = ".control"
 
 
 class Gone(Exception):
@@ -58,20 +56,19 @@ def parser() -> Parser:
 
 
 def line_of(words: list[str]) -> str:
-    """The line that words are; a channel's name that has blanks is in quotes again, and so is an empty filter."""
-    quoted = (at == 1 and " " in it or at == 2 and not it for at, it in enumerate(words))
-    named = [f'"{it}"' if words[0] == "set" and is_quoted else it for it, is_quoted in zip(words, quoted)]
-    return " ".join(named)
+    """The line that words are; a channel's name that has blanks is in quotes again."""
+    return " ".join(f'"{it}"' if words[0] == "set" and at == 1 and " " in it else it for at, it in enumerate(words))
 
 
 def socket_of(name: str) -> str:
-    """The socket of a run, by its path, its name or its settings; where none is there the one that settings mean, or the
-    name itself."""
+    """The socket of a run, by its path, its name or its settings."""
     is_settings = name.endswith(".toml")
-    beside = [f"{split(name)[0]}{ENDING}", f"{name}{ENDING}"]
+    beside = [control_path(name), control_path(f"{name}.ch11")]
     meant = sockets_in(name if is_settings else f"{name}.toml")
-    missing = [*meant, *beside][0] if is_settings else name
-    return next((it for it in (name, *beside, *meant) if is_socket(it)), missing)
+    found = next((it for it in (name, *beside, *meant) if is_socket(it)), None)
+    if found is None:
+        raise Gone(f"nobody listens {f'at {[*meant, *beside][0]}' if is_settings else f'there, or at {beside[0]}'}")
+    return found
 
 
 def sockets_in(settings: str) -> list[str]:
@@ -81,7 +78,7 @@ def sockets_in(settings: str) -> list[str]:
     if flight and run_fault(flight.settings):
         raise Refusal(2, f"{settings}: {run_fault(flight.settings)}")
     control, out = (flight.run.get("control"), flight.out()) if flight else (None, None)
-    meant = control if isinstance(control, str) else f"{split(out)[0]}{ENDING}" if out else None
+    meant = control if isinstance(control, str) else control_path(out) if out else None
     return [os.path.join(it, meant) for it in (os.path.dirname(settings), "")] if meant else []
 
 
@@ -136,18 +133,26 @@ def ask_all(path: str, lines: Iterable[str], patience: Optional[float]) -> int:
 def run(arguments: list[str]) -> int:
     """Asks: the status."""
     given = parser().parse_args(arguments)
+    if given.words and given.words[0].partition("=")[0] == "--wait":
+        # Behind RUN it is an option too, and within a LINE a word.
+        end = 1 + ("=" not in given.words[0])
+        given = parser().parse_args([*given.words[:end], given.run, *given.words[end:]])
     words = line_of(given.words)
+    if given.words[:1] == ["set"] and "" in given.words[2:]:
+        # As a variable of the shell is that isn't set: it must not open the channel.
+        printing.err(f"{name_of('tell')}: FILTER is empty; all keeps all frames")
+        return USAGE
     if "\n" in words:
         printing.err(f"{name_of('tell')}: LINE has a line feed, and so it is more than one")
         return USAGE
     typed = (line.rstrip("\n") for line in sys.stdin)
+    path = given.run
     try:
         path = socket_of(given.run)
+        return ask_all(path, [words] if words else (it for it in typed if it), given.wait)
     except Refusal as refusal:
         printing.err(f"{name_of('tell')}: {refusal.what()}")
         return refusal.status
-    try:
-        return ask_all(path, [words] if words else (it for it in typed if it), given.wait)
     except Gone as why:
         printing.err(f"{name_of('tell')}: {path}: {why}")
         return NOBODY

@@ -223,13 +223,13 @@ class Changes:
         self.count += 1
         return self.folder.top / f"change_{self.count}"
 
-    def answered(self, change: Change, is_installed: bool, made: Path) -> None:
+    def answered(self, change: Change, is_installed: bool, folder: Path) -> None:
         """Keeps the listing of a line that the recorder took, and notes its words in the folder of the recording; another
         one's copy isn't wanted any more."""
         if change.copy is None:
             return
         if is_installed and change.words:
-            note_filter(made, change.channel, change.copy, change.words)
+            note_filter(folder, change.channel, change.copy, change.words)
         if is_installed and self.keeps:
             change.copy.replace(self.folder.kept_filter(change.channel))
             self.folder.keep_words(change.channel, change.words)

@@ -13,6 +13,7 @@ from bpfrec_tools.live.arguments import Arguments
 from bpfrec_tools.live.control.changes import MAX_WAITING, Change, Changes, Held, Input
 from bpfrec_tools.live.control.sockets import ControlSocket
 from bpfrec_tools.live.control.words import HELP, Asker, Word, answer, mark_in, word_of
+from bpfrec_tools.live.kept.names import Refusal
 from bpfrec_tools.live.parts.loop import Loop
 from bpfrec_tools.live.parts.part import Part
 from bpfrec_tools.live.parts.recorder import Recorder
@@ -52,11 +53,19 @@ class ControlLines(Part):
         self.loop, self.given, self.changes, self.current = loop, given, changes, current
         self.ports, self.mark, self.err, self.terminal = ports, ports.mark, ports.err, ports.terminal
         self.input = Input()
-        self.socket: Optional[ControlSocket] = None
-        if given.control is not None:
-            self.socket = ControlSocket(given.control, loop, self.may_take, self.take_line)
+        self.socket = self.made_socket(given.socket())
         # The lines that no recorder has yet.
         self.held: deque[Held] = deque()
+
+    def made_socket(self, path: Optional[str]) -> Optional[ControlSocket]:
+        """The socket by which lines come too. The usual one may be missing, which is said."""
+        try:
+            return ControlSocket(path, self.loop, self.may_take, self.take_line) if path else None
+        except Refusal as why:
+            if self.given.control is not None:
+                raise
+            self.err(said(f"warning: bpfrec tell finds no socket: {why.what()}"))
+            return None
 
     def is_open(self) -> bool:
         """Whether a line may come still: from standard input or by the socket."""
@@ -233,7 +242,7 @@ class ControlLines(Part):
         if not found or not recorder.lines.unanswered:
             return line
         change = recorder.lines.unanswered.pop(0)
-        self.changes.answered(change, found.is_installed(), recorder.made)
+        self.changes.answered(change, found.is_installed(), recorder.folder)
         changed(change, found)
         where = f" in {recorder.about.out}" if found.is_installed() and self.given.is_rotating() else ""
         told = f"{line}{where}{change.why_refused(line)}"

@@ -16,8 +16,9 @@ from typing import Callable, Optional
 from bpfrec_tools.live.control.changes import MAX_LINE_LEN
 from bpfrec_tools.live.control.line_buffer import READ_LEN, LineBuffer
 from bpfrec_tools.live.control.words import Answering
-from bpfrec_tools.live.kept.names import refused
+from bpfrec_tools.live.kept.names import Refusal, refused
 from bpfrec_tools.live.parts.loop import Loop
+from bpfrec_tools.live.said import said
 
 # The longest path that a Unix socket can have, in bytes.
 MAX_PATH_LEN = 107
@@ -33,6 +34,10 @@ def text_of(text: str, is_done: bool) -> bytes:
     """An answer as a client gets it."""
     lines = [it for it in text.split("\n") if it]
     return os.fsencode("\n".join(["done" if is_done else "refused", *lines]) + "\n\n")
+
+
+class Heard(Refusal):
+    """Somebody listens there."""
 
 
 class Client:
@@ -177,7 +182,8 @@ class ControlSocket:
 
 def listening_at(path: str) -> socket.socket:
     """A socket that listens at a path. One that nobody listens at any more is replaced, and nothing else is."""
-    remove_left(path)
+    if is_left(path):
+        os.unlink(path)
     made = socket.socket(socket.AF_UNIX, socket.SOCK_STREAM | socket.SOCK_NONBLOCK | socket.SOCK_CLOEXEC)
     before = os.umask(0o777 & ~OWNERS)
     try:
@@ -191,8 +197,8 @@ def listening_at(path: str) -> socket.socket:
     return made
 
 
-def judge_path(path: str) -> bool:
-    """Refuses a path at which no socket can be made; gives whether one stands there."""
+def has_socket(path: str) -> bool:
+    """Whether a socket stands at a path; one at which none can be made is refused."""
     if len(os.fsencode(path)) > MAX_PATH_LEN:
         raise refused(2, f"--control {path}: a socket's path has at most {MAX_PATH_LEN} bytes")
     found = kind_of(path)
@@ -206,23 +212,22 @@ def judge_path(path: str) -> bool:
     return found is not None
 
 
-def remove_left(path: str) -> None:
-    """Removes a socket that was left by a run that was killed."""
-    if not judge_path(path):
-        return
+def is_left(path: str) -> bool:
+    """Whether the socket of a run that was killed stands at a path; one at which none can be made is refused."""
+    if not has_socket(path):
+        return False
     with socket.socket(socket.AF_UNIX, socket.SOCK_STREAM) as asked:
         # Where its queue is full somebody listens too, who takes no connection now.
         asked.setblocking(False)
         try:
             asked.connect(path)
         except ConnectionRefusedError:
-            os.unlink(path)
-            return
+            return True
         except BlockingIOError:
             pass
         except OSError as error:
             raise refused(3, f"--control {path}: {error.strerror}") from None
-    raise refused(3, f"--control {path}: another program listens there")
+    raise Heard(3, said(f"{path}: another run takes lines there: give OUT another name, or --control"))
 
 
 def kind_of(path: str) -> Optional[int]:

@@ -43,15 +43,15 @@ class Writer:
 
     def prepare(self, about: About) -> None:
         """Leaves what is known of a recording when it begins, for whoever writes its facts where live is killed."""
-        made = self.folder.of(about.number)
-        (made / "about.json").write_text(json.dumps(about), encoding="utf-8")
+        folder = self.folder.of(about.number)
+        (folder / "about.json").write_text(json.dumps(about), encoding="utf-8")
         try:
             # By now, since a line may change a filter until the facts are written first.
-            (made / FILTERS).touch()
+            (folder / FILTERS).touch()
             for found in self.filters():
-                add_line(made / FILTERS, found)
+                add_line(folder / FILTERS, found)
         except OSError:
-            remove(str(made / FILTERS))
+            remove(str(folder / FILTERS))
 
     def beginning(self, about: About) -> Entry:
         """What is known of a recording when it begins, which is found once, and each filter that was noted since."""
@@ -155,11 +155,11 @@ class Writer:
         unhashed = {"sha256": None, "bytes": None, "before": None}
         if status is None:
             return {"state": "recording", "report": None, "audit": None, "status": None, **unhashed}
-        made = self.folder.of(about.number)
+        folder = self.folder.of(about.number)
         return {
             "state": "ended",
-            "report": lines_of(made / "report"),
-            "audit": lines_of(made / "audit"),
+            "report": lines_of(folder / "report"),
+            "audit": lines_of(folder / "audit"),
             "status": status,
             **unhashed,
         }

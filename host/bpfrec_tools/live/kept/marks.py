@@ -111,7 +111,7 @@ class Marks(Part):
             return f"{out} has {MAX_NOTED_MARKS:,} marks, and can't have more"
         mark = Noted(self.counter_of(typed.steady), typed.moment, typed.text)
         try:
-            note(recorder.made, mark)
+            note(recorder.folder, mark)
         except OSError as error:
             return f"it can't be noted: {error.strerror}"
         marks.append(typed)

@@ -94,11 +94,11 @@ class Files(NamedTuple):
         it."""
         if is_special(out):
             return
+        if os.path.isdir(out):
+            raise refused(3, f"{out}: it is a folder")
         for path in (out, facts_path(out), signature_path(facts_path(out)), *beside):
             if os.path.lexists(path) and (not self.is_forced or os.path.islink(path)):
                 raise refused(3, f"{path} is there: {advice(path, self.is_forced)}")
-        if os.path.isdir(out):
-            raise Refusal(3, f"file {out}")
 
 
 def created_beside(path: str, files: Files) -> tuple[str, int]:

@@ -31,15 +31,15 @@ class Noted(NamedTuple):
         return {"counter": counter, "time": tick_of(self.moment), "text": self.text}
 
 
-def note(made: Path, mark: Noted) -> None:
+def note(folder: Path, mark: Noted) -> None:
     """Notes a mark of the recording with this folder; an OSError says that it can't be."""
-    add_line(made / MARKS, mark)
+    add_line(folder / MARKS, mark)
 
 
-def marks_of(made: Path, origins: list[Entry]) -> list[Entry]:
+def marks_of(folder: Path, origins: list[Entry]) -> list[Entry]:
     """The marks of the recording with this folder, as the facts have them."""
     try:
-        return [Noted(*it).facts(origins) for it in lines_in(made / MARKS)]
+        return [Noted(*it).facts(origins) for it in lines_in(folder / MARKS)]
     except OSError:
         return []
 
@@ -53,12 +53,12 @@ def filter_entry(channel: int, path: str, words: str) -> Optional[Entry]:
     return {**found, "expression": words} if words else found
 
 
-def note_filter(made: Path, channel: int, listing: Path, words: str) -> None:
+def note_filter(folder: Path, channel: int, listing: Path, words: str) -> None:
     """Notes a filter that a line gave a channel, where there is room: the recording has its program either way."""
     found = filter_entry(channel, str(listing), words)
     with contextlib.suppress(OSError):
-        if found and (made / FILTERS).stat().st_size < MOST_FILTERS_LEN:
-            add_line(made / FILTERS, found)
+        if found and (folder / FILTERS).stat().st_size < MOST_FILTERS_LEN:
+            add_line(folder / FILTERS, found)
 
 
 # ---- lines of JSON

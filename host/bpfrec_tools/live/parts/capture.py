@@ -97,4 +97,4 @@ class Capture:
 
 def line_of(interface: str, counts: Counts) -> str:
     """The line that the capture prints of these counts."""
-    return f"capture: {interface} {' '.join(f'{name} {count}' for name, count in counts._asdict().items())}"
+    return f"bpfrec capture: {interface} {' '.join(f'{name} {count}' for name, count in counts._asdict().items())}"

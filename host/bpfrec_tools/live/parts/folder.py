@@ -17,7 +17,6 @@ from __future__ import annotations
 import fcntl
 import os
 import re
-import secrets
 from pathlib import Path
 from typing import Any, BinaryIO, Optional
 
@@ -25,9 +24,10 @@ from bpfrec.formats.limits import MAX_COUNTER, MAX_LISTING_LEN
 from bpfrec.formats.listing import listing_in
 from bpfrec.formats.settings import NoReader, NoToml, Settings, settings_of
 from bpfrec.formats.settings_text import text_of
+from bpfrec_tools.cli.files import Unread, read_text
 from bpfrec_tools.live.arguments import Arguments
 from bpfrec_tools.live.flight import texts_of, without_flight
-from bpfrec_tools.live.kept.names import Refusal, refused
+from bpfrec_tools.live.kept.names import refused
 from bpfrec_tools.live.operands import Route
 from bpfrec_tools.live.parts import system
 from bpfrec_tools.live.parts.expressions import (
@@ -53,14 +53,10 @@ WORDS = ".words"
 def read_settings(path: str) -> tuple[str, Settings]:
     """The text of SETTINGS and what it says; a Refusal where it can't be read."""
     try:
-        with open(path, "rb") as file:
-            data = file.read(MAX_LISTING_LEN + 1)
-        if len(data) > MAX_LISTING_LEN:
-            raise Refusal(3, f"file {path}")
-        text = data.decode()
+        text = read_text(path)
         return text, without_flight(settings_of(path, text))
-    except (OSError, UnicodeDecodeError):
-        raise Refusal(3, f"file {path}") from None
+    except Unread as why:
+        raise refused(3, f"{path}: {why}") from None
     except NoReader as why:
         raise refused(3, str(why)) from None
     except NoToml as fault:
@@ -88,8 +84,8 @@ def judge_settings(settings: Settings, given: Arguments) -> None:
             raise refused(2, f"{given.settings} has no table [[channel]] with a line id = {route.channel}")
         has_filter = route.expression or given.settings is None or any(it.path("filter") for it in tables)
         if given.is_prefiltered and not has_filter:
-            what = f'live: --prefilter needs a line filter = ".." of channel {route.channel}'
-            raise Refusal(2, f"{what} in {given.settings}")
+            what = f'--prefilter needs a line filter = ".." of channel {route.channel}'
+            raise refused(2, f"{what} in {given.settings}")
 
 
 def is_channel(table: dict[str, Any], channel: int) -> bool:
@@ -111,7 +107,7 @@ class Folder:
         self.listings |= {channel: listing_in_words(*named) for channel, named in self.words.items()}
         self.keeps_filters, self.spans = given.is_rotating(), spans_of(settings, given)
         self.holder = os.environ.get("TMPDIR") or "/tmp"
-        self.top = Path(self.holder, f"bpfrec.{secrets.token_hex(8)}")
+        self.top = Path(self.holder, f"bpfrec.{os.urandom(8).hex()}")
         self.events = self.top / "events"
         self.held: Optional[int] = None
 
@@ -121,7 +117,7 @@ class Folder:
         try:
             self.top.mkdir(mode=0o700)
         except OSError as error:
-            raise Refusal(3, f"file {self.holder}: {error.strerror}") from None
+            raise refused(3, f"{self.holder}: {error.strerror}") from None
         self.hold()
         (self.top / "settings").write_text(self.text, encoding="utf-8")
         (self.top / "filters").mkdir()

@@ -22,8 +22,8 @@ READ_LEN = 1 << 16
 class Recorder:
     """A recording with its descriptors. `place` is how its recorder finds OUT, which may be created later."""
 
-    def __init__(self, recording: Recording, made: Path, about: About) -> None:
-        self.recording, self.made, self.about = recording, made, about
+    def __init__(self, recording: Recording, folder: Path, about: About) -> None:
+        self.recording, self.folder, self.about = recording, folder, about
         self.descriptor: Optional[int] = None
         self.place = about.out
         self.is_created = self.is_moved = self.is_told = False
@@ -33,7 +33,7 @@ class Recorder:
         self.auditor: Optional[children.Child] = None
         self.lines = Pipe()
         # Both ways, so that the recorder always has a reader, also where live has died.
-        self.answers = os.open(made / "answers", os.O_RDWR | os.O_NONBLOCK | os.O_CLOEXEC)
+        self.answers = os.open(folder / "answers", os.O_RDWR | os.O_NONBLOCK | os.O_CLOEXEC)
         self.rest = b""
         self.keeper: Optional[Keeper] = None
         self.watch: Optional[int] = None
@@ -101,8 +101,8 @@ class Recorder:
         kept = [everybody]
         if self.is_inherited() and self.descriptor is not None:
             kept.append(self.descriptor)
-        arguments = [bpfrec, "record", str(self.made / "settings.toml"), self.place]
-        with open_printed(self.made, "report") as report:
+        arguments = [bpfrec, "record", str(self.folder / "settings.toml"), self.place]
+        with open_printed(self.folder, "report") as report:
             streams = (self.lines.reader, report, self.answers)
             manner = children.Manner(kept, ends_with=lifeline)
             self.child = children.start(arguments, streams, manner)
@@ -112,8 +112,8 @@ class Recorder:
     def start_audit(self, bpfrec: str, guard: Guard) -> children.Child:
         """Starts an audit of OUT, which ends with live: it may take long, and nobody would wait for it."""
         # By standard input, so that the file may have any name, and another one by now.
-        with open(f"/proc/self/fd/{self.descriptor}", "rb") as read, open_printed(self.made, "audit") as answer:
-            with open_printed(self.made, "audit_errors") as errors:
+        with open(f"/proc/self/fd/{self.descriptor}", "rb") as read, open_printed(self.folder, "audit") as answer:
+            with open_printed(self.folder, "audit_errors") as errors:
                 self.auditor = guard.start([bpfrec, "audit", "-"], (read, answer, errors), [guard.all])
         return self.auditor
 
@@ -137,7 +137,7 @@ class Recorder:
     def text(self, name: str) -> str:
         """What a program printed into a file of this recording's folder."""
         try:
-            return os.fsdecode((self.made / name).read_bytes())
+            return os.fsdecode((self.folder / name).read_bytes())
         except OSError:
             return ""
 

@@ -69,8 +69,8 @@ class Recordings:
         if not self.is_special(recording):
             try:
                 recorder.take_output(self.files.create(recorder.about.out))
-            except OSError:
-                self.err(f"file {recorder.about.out}")
+            except OSError as error:
+                self.err(said(f"{recorder.about.out}: {error.strerror}"))
                 return False
         self.watched.watch(recorder)
         return True

@@ -6,6 +6,7 @@ from typing import Callable
 
 from bpfrec_tools.live.parts.loop import Loop
 from bpfrec_tools.live.reports.standard_streams import Lines, Printed
+from bpfrec_tools.live.said import said
 from bpfrec_tools.live.status import Terminal
 
 
@@ -49,7 +50,7 @@ class Console:
         """Tells the first time that standard output doesn't take what is printed."""
         if self.printed.has_failed and not self.has_told:
             self.has_told = True
-            self.err("file -")
+            self.err(said("-: standard output takes no more"))
             self.failed()
 
     def write_on(self) -> None:

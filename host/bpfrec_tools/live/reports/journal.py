@@ -34,19 +34,19 @@ KINDS = [
         Priority.WARNING,
     ),
     (
-        r"capture: (origin \S+( from counter 0 on: counters have begun at 0 again)?$|\S+ frames \d+ |\S+ clock "
+        r"bpfrec capture: (origin \S+( from counter 0 on: counters have begun at 0 again)?$|\S+ frames \d+ |\S+ clock "
         r"|\S+ buffer \d+ MiB|.*: the adapter's clock |.*: it is (up again|back)$)",
         Priority.NOTE,
     ),
     (
-        r"capture: (origin |\S+ LOST |.*: it (is down|has no carrier), and |.*: the interface is gone, and "
+        r"bpfrec capture: (origin |\S+ LOST |.*: it (is down|has no carrier), and |.*: the interface is gone, and "
         r"|it may write all "
         r"|.* (aren't|isn't) limited: |.*, and it goes on as before$|.*: the recorder alone runs it$"
         r"|.*: its frames have another time scale )",
         Priority.WARNING,
     ),
     (r"refused ", Priority.WARNING),
-    (r"(bpfrec live|capture): |file |SourceFault |memory$", Priority.ERROR),
+    (r"bpfrec (live|capture): |file |SourceFault |memory$", Priority.ERROR),
 ]
 
 

@@ -124,15 +124,8 @@ ROWS: dict[State, dict[Event, Outcome]] = {
         E.DUE: (S.RECORDING, (A.BEGIN_NEXT,)),
         E.NEXT_BEGUN: (S.HANDING_OVER, (A.GO_OVER,)),
     },
-    S.HANDING_OVER: {
-        **GOING,
-        E.OPENED: (S.OVERLAPPING, ()),
-        E.BEFORE_DONE: (S.OPENING, ()),
-    },
-    S.OVERLAPPING: {
-        **GOING,
-        E.BEFORE_DONE: (S.RECORDING, ()),
-    },
+    S.HANDING_OVER: {**GOING, E.OPENED: (S.OVERLAPPING, ()), E.BEFORE_DONE: (S.OPENING, ())},
+    S.OVERLAPPING: {**GOING, E.BEFORE_DONE: (S.RECORDING, ())},
     S.RETRYING: {
         **FEEDING,
         E.ROOM: (S.RETRYING, (A.BEGIN_NEXT,)),
@@ -178,10 +171,7 @@ ROWS: dict[State, dict[Event, Outcome]] = {
         E.RECORDER_OVERDUE: (S.HURRIED, (A.KILL_ALL,)),
         E.UNOPENED: (S.HURRIED, (A.LET_GO,)),
     },
-    S.CONCLUDING: {
-        E.CONCLUDED: (S.DONE, ()),
-        E.LATER_SIGNAL: (S.HURRIED, ()),
-    },
+    S.CONCLUDING: {E.CONCLUDED: (S.DONE, ()), E.LATER_SIGNAL: (S.HURRIED, ())},
     S.REFUSED: {
         E.RECORDER_ENDED: (S.REFUSED, (A.END_FEEDING,)),
         E.ALL_ENDED: (S.DONE, ()),

@@ -1,9 +1,10 @@
-"""Files as a preflight looks at them: it opens neither pipes nor devices."""
+"""Files as they are looked at ahead of a recording: neither pipes nor devices are opened."""
 
 from __future__ import annotations
 
 import os
 import stat
+from functools import cache
 from typing import Optional
 
 from bpfrec.formats.limits import MAX_LISTING_LEN
@@ -15,8 +16,20 @@ class Unread(Exception):
     """A file can't be read: why."""
 
 
+STREAM = "-"
+
+
+@cache
+def typed() -> bytes:
+    """What standard input has, which is read once; a byte more than a text may have shows that it is longer."""
+    with open(0, "rb", closefd=False) as stream:
+        return stream.read(MAX_LISTING_LEN + 1)
+
+
 def kind_of(path: str) -> str:
-    """What may be opened for reading there: `file`, `directory`, `pipe` or `device`."""
+    """What may be opened for reading there: `file`, which standard input is too, `directory`, `pipe` or `device`."""
+    if path == STREAM:
+        return "file"
     try:
         mode = os.stat(path).st_mode
     except (FileNotFoundError, NotADirectoryError):
@@ -35,8 +48,11 @@ def kind_of(path: str) -> str:
 def read_text(path: str) -> str:
     """The text of a file, which is bounded as that of settings and listings is."""
     try:
-        with open(path, "rb") as file:
-            data = file.read(MAX_LISTING_LEN + 1)
+        if path == STREAM:
+            data = typed()
+        else:
+            with open(path, "rb") as file:
+                data = file.read(MAX_LISTING_LEN + 1)
     except IsADirectoryError:
         raise Unread("a directory") from None
     except OSError as fault:
