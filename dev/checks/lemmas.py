@@ -1,26 +1,40 @@
 #!/usr/bin/env python3
-"""Checks the files of definitions and proofs: their lines have 160 columns at most, and a file of lemmas has a name of
-its own.
+"""Checks definitions, clauses and proofs: lines of definitions and clauses have 100 columns at most, those of proofs
+160, and a file of lemmas has a name of its own.
 
-A name of a file of lemmas that stands in two crates says of neither what it serves. The status is 1 where a line is too
+A line with a text is as long as that. A name of a file of lemmas that stands in two crates says of neither what it serves. The status is 1 where a line is too
 long or a name stands twice.
 """
 import argparse
+import re
 import sys
 from collections import defaultdict
 from collections.abc import Iterator
 from pathlib import Path
 
 ROOT = Path(__file__).resolve().parents[2]
-MOST_COLUMNS = 160
+# The most columns of lines of definitions and of clauses, and of those of proofs.
+OF_CLAUSES, OF_PROOFS = 100, 160
+# What a line of code has only in a clause.
+IN_CLAUSES = re.compile("[→≡≢≤×λ]")
 
 
 def long_lines() -> Iterator[str]:
     """Each line that is too long, by its place, with its columns."""
-    for file in sorted([*ROOT.glob("crates/*/specs/**/*.antt"), *ROOT.glob("crates/*/proofs/**/*.antt")]):
-        for at, line in enumerate(file.read_text().splitlines(), 1):
-            if len(line) > MOST_COLUMNS:
-                yield f"{file.relative_to(ROOT)}:{at}: {len(line)} columns"
+    for pattern, most in (
+        ("specs/**/*.antt", OF_CLAUSES),
+        ("proofs/**/*.antt", OF_PROOFS),
+        ("src/**/*.rt", OF_CLAUSES),
+    ):
+        for file in sorted(ROOT.glob(f"crates/*/{pattern}")):
+            for at, line in enumerate(file.read_text().splitlines(), 1):
+                if len(line) > most and '"' not in line and (file.suffix == ".antt" or is_of_clause(line)):
+                    yield f"{file.relative_to(ROOT)}:{at}: {len(line)} columns"
+
+
+def is_of_clause(line: str) -> bool:
+    """Whether a line of code is of a clause, and imports nothing for one."""
+    return IN_CLAUSES.search(line) is not None and not line.lstrip().startswith(("ghost use", "//"))
 
 
 def shared_names() -> list[str]:
@@ -35,7 +49,7 @@ def shared_names() -> list[str]:
 def main() -> int:
     argparse.ArgumentParser(description=__doc__, formatter_class=argparse.RawDescriptionHelpFormatter).parse_args()
     faults = [*long_lines(), *shared_names()]
-    print("\n".join([*faults, f"{len(faults)} lines of proofs too long, or names of lemma files that stand twice"]))
+    print("\n".join([*faults, f"{len(faults)} lines too long, or names of lemma files that stand twice"]))
     return 1 if faults else 0
 
 

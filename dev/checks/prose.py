@@ -178,13 +178,7 @@ def strings_in(file: Path) -> Iterator[tuple[int, str]]:
 
 def printed() -> Iterator[tuple[Path, int, str]]:
     """Each string that is printed, with its file and its line."""
-    python = [
-        "host/**/*.py",
-        "host/tool",
-        "capture/tests/*.py",
-        "dev/tests/*.py",
-        "dev/trials/**/*.py",
-    ]
+    python = ["host/**/*.py", "host/tool", "capture/tests/*.py", "dev/tests/*.py", "dev/trials/**/*.py"]
     patterns = [*python, "capture/src/*.[ch]", "**/Makefile"]
     for file in sorted(it for pattern in patterns for it in ROOT.glob(pattern) if it.is_file()):
         yield from ((file, *it) for it in strings_in(file))

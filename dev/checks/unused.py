@@ -40,8 +40,6 @@ GOALS = ("Answers", "Invariants", "Proof", "Checks")
 CALL = re.compile(r"^ *pub (?:(?:const )?fn|struct|enum|trait|type) (\w+)")
 # What is there for tests, pages and measurements alone.
 FOR_TESTS = {"test_samples", "test_callers", "test_whole", "test_buffers", "test_theorem", "bench"}
-# Libraries that stand ahead of the command that will call them.
-AHEAD: set[str] = set()
 # Public calls that the program makes no use of, and what they are there for.
 OFFERED = {
     "run_world": "the core, driven by a list of events: the theorem is stated of it",
@@ -126,7 +124,7 @@ def unused_calls(code: Code) -> Iterator[Place]:
     tests = {it for it in crates() if crates()[it].has_tests()} | FOR_TESTS
     callers = [(file, words) for file, words in code if crate_of(file) not in tests]
     for file, _ in code:
-        if crate_of(file) in tests | AHEAD or is_program(crate_of(file)):
+        if crate_of(file) in tests or is_program(crate_of(file)):
             continue
         for at, name in calls_in(file):
             if name not in OFFERED and not any(name in words for other, words in callers if other != file):

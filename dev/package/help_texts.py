@@ -11,8 +11,8 @@ from typing import NamedTuple
 
 ROOT = Path(__file__).resolve().parents[2]
 sys.path.insert(0, str(ROOT / "host"))
-from bpfrec_tools.__main__ import TOOLS as PYTHON_TOOLS
 from bpfrec_tools.cli.arguments import Parser
+from bpfrec_tools.verbs import TOOLS as PYTHON_TOOLS
 
 COMMANDS, HELP = ROOT / "crates/rec_words/src/command_line.rt", ROOT / "crates/rec_words/src/command_line/help.rt"
 FORMATS = [ROOT / f"docs/user/formats/{it}.md" for it in ("filters", "recording")]

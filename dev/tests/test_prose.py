@@ -60,14 +60,7 @@ def test_pages_with_too_many_words_are_found(monkeypatch: pytest.MonkeyPatch) ->
 def test_the_help_of_each_tool_is_read() -> None:
     """Each tool's help is read, and that of each of its commands."""
     names = [name for name, _ in prose.texts()]
-    for name in (
-        "capture",
-        "check",
-        "export",
-        "filter",
-        "live",
-        "preflight",
-    ):
+    for name in ("capture", "check", "export", "filter", "live", "preflight"):
         judge(f"{name} --help", any(it.endswith(f"{name} --help") for it in names), names)
 
 

@@ -214,7 +214,7 @@ def test_frames_that_were_dropped_before_an_interface_was_removed_are_counted(wo
     status, told = running.ended()[0], running.told()
     counts = judge_fed(told, 4_100, len(numbers(reader.all())))
     judge("some were dropped, and all is told", status == 0 and counts.dropped > 0, told)
-    judge("at last too", f"capture: rx0 LOST {counts.dropped} dropped 0 skipped\n" in told, told)
+    judge("at last too", f"bpfrec capture: rx0 LOST {counts.dropped} dropped 0 skipped\n" in told, told)
 
 
 def waits_of(process: int) -> int:

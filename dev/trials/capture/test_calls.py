@@ -221,6 +221,6 @@ def test_a_line_says_that_root_stays_root_where_there_is_no_landlock(work: Path,
     reader = Reader(pipe_at(work, "one.pipe"))
     running = Running(work, CAPTURE, f"rx0={reader.path}", adds=without_landlock(failing_rights))
     running.wait_until_told("origin")
-    line = "capture: it may write all that root may: the kernel has no Landlock, and its feeds are root's\n"
+    line = "bpfrec capture: it may write all that root may: the kernel has no Landlock, and its feeds are root's\n"
     judge("a line says so", line in running.told() and identity_of(running.process.pid)["Uid"].startswith("0"))
     running.end_well()

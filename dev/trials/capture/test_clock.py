@@ -6,9 +6,7 @@ the set clock had when it was sent.
 """
 
 import os
-import select
 import signal
-import threading
 import time
 from pathlib import Path
 
@@ -16,19 +14,7 @@ import pytest
 from clock import TOLD, Clock, Sender, judge_frames, judge_steps, origins_told, preloaded, steps_told
 from frames import records
 from namespace import send_numbered
-from support import (
-    CAPTURE,
-    MILLISECOND,
-    SECOND,
-    SECONDS,
-    Reader,
-    Running,
-    judge,
-    judge_quietly,
-    origin_told,
-    pipe_at,
-    wait_for,
-)
+from support import CAPTURE, MILLISECOND, SECOND, Reader, Running, judge, judge_quietly, origin_told, pipe_at, wait_for
 from time_marks import begin, frames_of, judge_ended, judge_moments, judge_order, marks_of
 
 WANTED = ("bin/bpfrec", "bin/capture", "ip", "cc", "pcap-config")
@@ -40,37 +26,12 @@ ADAPTER_AHEAD = 37
 LEAST_STEP = SECOND // 2000
 
 
-class LateReader(threading.Thread):
-    """Holds a pipe open, and reads it to its end from `start` on."""
-
-    def __init__(self, path: Path) -> None:
-        super().__init__(daemon=True)
-        self.path, self.data = path, b""
-        self.pipe = os.open(path, os.O_RDONLY | os.O_NONBLOCK)
-        os.set_blocking(self.pipe, True)
-
-    def run(self) -> None:
-        # A read before there is a writer would be the end.
-        has_more = select.poll()
-        has_more.register(self.pipe, select.POLLIN)
-        while has_more.poll() and (part := os.read(self.pipe, 1 << 16)):
-            self.data += part
-        os.close(self.pipe)
-
-    def all(self) -> bytes:
-        self.join(SECONDS)
-        return self.data
-
-
 class Captured:
     """A capture of both pairs under a clock that is set, with a reader of each."""
 
-    def __init__(self, work: Path, starts_reading: tuple = (True, True)) -> None:
+    def __init__(self, work: Path) -> None:
         self.clock, self.sender = Clock(work), Sender()
-        self.readers = [LateReader(pipe_at(work, f"{at}.pipe")) for at in (0, 1)]
-        for reader, starts in zip(self.readers, starts_reading):
-            if starts:
-                reader.start()
+        self.readers = [Reader(pipe_at(work, f"{at}.pipe")) for at in (0, 1)]
         ways = [f"rx{at}={reader.path}" for at, reader in enumerate(self.readers)]
         self.running = Running(work, CAPTURE, "--quiet", *ways, adds=self.clock.adds)
         self.running.wait_until_told("origin")
@@ -99,17 +60,6 @@ class Captured:
             judge_frames(f"{what}: rx{at}", records(reader.all()), self.sender.sent, origins, self.clock)
         if steps is not None:
             judge_steps(what, self.running.told(), steps)
-        judge(f"{what}: counters go on, and with the origins that are told each frame has its time", True)
-
-
-def test_a_clock_that_is_set_under_traffic_gives_a_new_origin(work: Path) -> None:
-    captured = Captured(work)
-    captured.sender.send(50)
-    captured.clock.set_by(STEP)
-    captured.sender.send(50)
-    captured.wait_for_told(1)
-    captured.sender.send(50)
-    captured.judge("the clock is set", [STEP])
 
 
 def test_frames_from_before_and_after_a_setting_have_their_origins(work: Path) -> None:
@@ -124,19 +74,6 @@ def test_frames_from_before_and_after_a_setting_have_their_origins(work: Path) -
     captured.wait_for_told(1)
     captured.sender.send(50)
     captured.judge("the clock is set while frames wait", [-SECOND])
-
-
-def test_a_setting_while_a_pipe_is_full_gives_a_new_origin(work: Path) -> None:
-    """The reader of one feed stands still, and frames of before and after wait in the kernel."""
-    captured = Captured(work, (False, True))
-    captured.sender.send(1_500, 1_500, 0)
-    time.sleep(0.2)
-    captured.clock.set_by(STEP)
-    captured.sender.send(300, 1_500, 0.0005)
-    captured.wait_for_told(1)
-    captured.readers[0].start()
-    captured.sender.send(50)
-    captured.judge("the clock is set while a pipe is full", [STEP])
 
 
 def test_a_setting_of_which_no_frame_tells_is_told(work: Path) -> None:
@@ -162,11 +99,8 @@ def test_a_clock_that_gains_is_followed_in_steps(work: Path) -> None:
     gained = captured.clock.ahead_at(time.time_ns())
     captured.judge(f"a clock that gains {PPM} millionths", None)
     steps = steps_told(captured.running.told())
-    judge(
-        f"is followed in {len(steps)} steps",
-        abs(gained - sum(steps)) < MILLISECOND and len(steps) <= gained // LEAST_STEP + 1,
-        (gained, steps),
-    )
+    holds = abs(gained - sum(steps)) < MILLISECOND and len(steps) <= gained // LEAST_STEP + 1
+    judge(f"is followed in {len(steps)} steps", holds, (gained, steps))
 
 
 # ---- time marks

@@ -41,7 +41,7 @@ def objects_of(data: bytes) -> list[dict[str, Any]]:
 
 def printed(running: Running, interface: str) -> list[int]:
     """The counts of the one line that was printed of an interface."""
-    (line,) = re.findall(rf"capture: {interface} frames .*", running.told())
+    (line,) = re.findall(rf"bpfrec capture: {interface} frames .*", running.told())
     return [int(it) for it in re.findall(r" (\d+)", line)]
 
 
@@ -124,14 +124,3 @@ def test_a_pipe_without_room_loses_lines_whole_and_stops_nothing(work: Path) -> 
     with open(reads, "rb") as file:
         objects = objects_of(file.read())
     judge("and others later", status == 0 and len(objects) >= 2 and objects[-1]["frames"] == 4 * SENT, objects)
-
-
-def test_a_reader_of_the_counts_who_leaves_ends_nothing(work: Path) -> None:
-    feed = Reader(pipe_at(work, "rx0.pipe"))
-    reads, writes = os.pipe()
-    running = begin(work, writes, "rx0")
-    os.close(reads)
-    time.sleep(1.2)
-    send_numbered("tx0", 0, SENT)
-    wait_for("each frame is recorded", lambda: len(feed.data) == SENT * RECORD_LEN)
-    running.end_well()

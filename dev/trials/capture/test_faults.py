@@ -64,7 +64,10 @@ def test_standard_error_that_nobody_reads_holds_up_no_frame(work: Path) -> None:
     judge(
         "a standard error that nobody reads stops nothing", status == 0 and set(range(SENT)) == set(numbers(feed.all()))
     )
-    judge("and the lines that it had no room for are counted", re.search(rb"capture: \d+ lines were left out", told))
+    judge(
+        "and the lines that it had no room for are counted",
+        re.search(rb"bpfrec capture: \d+ lines were left out", told),
+    )
 
 
 def fill_terminal(other: int, terminal: int) -> None:
@@ -168,6 +171,7 @@ def test_a_run_that_is_ended_at_once_counts_what_it_leaves(work: Path) -> None:
     whole = len(read) // 1_513
     counts = judge_fed(running.told(), SENT, whole)
     judge("and their bytes", (status, counts.bytes) == (1, 1_504 * whole), running.told())
+    judge("and says why", "the run was to end at once" in running.told(), running.told())
 
 
 def test_counts_of_reader_that_left(work: Path) -> None:

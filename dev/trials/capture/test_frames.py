@@ -3,7 +3,6 @@ sequences."""
 
 import os
 import re
-import signal
 import time
 import zlib
 from collections.abc import Callable
@@ -12,12 +11,10 @@ from pathlib import Path
 import pytest
 from accounts import judge_fed
 from captures import fields_of, is_as_tshark_reads
-from frames import numbered, numbers, records, with_check_sequence
-from namespace import long_frames, make_pair, send, send_numbered, send_together, set_link, socket_into, take_away
-from recordings import YES, extracted, settings_of
+from frames import numbered, numbers, records
+from namespace import long_frames, send, send_numbered, send_together, socket_into
 from support import (
     CAPTURE,
-    LIVE,
     MILLISECOND,
     SECONDS,
     Reader,
@@ -49,42 +46,6 @@ def capture_while(work: Path, sends: Callable[[], object], *words: object) -> tu
 
 
 # ---- interfaces that come and go
-
-
-def test_an_interface_that_comes_back_is_captured_again(work: Path) -> None:
-    """An interface that goes down and comes up again, one that is taken away and made anew, and one that stays away."""
-    out = work / "down.ch11"
-    running = Running(work, LIVE, "--quiet", settings_of(work), out, "rx0=1", "rx1=2")
-    running.wait_until_told("origin")
-    send_together(0, 100)
-    set_link("rx0", "down")
-    running.wait_until_told("rx0: it is down")
-    send_numbered("tx1", 100, 200)
-    set_link("rx0", "up")
-    wait_for("the interface is up", lambda: "LOWER_UP" in run("ip", "link", "show", "tx0"))
-    send_numbered("tx0", 200, 300)
-    running.wait_until_told("rx0: it is up again")
-    time.sleep(0.1)
-    take_away("rx0")
-    running.wait_until_told("rx0: the interface is gone, and is taken again once it is back")
-    send_numbered("tx1", 200, 300)
-    make_pair(0)
-    running.wait_until_told("rx0: it is back")
-    send_numbered("tx0", 300, 400)
-    time.sleep(0.2)
-    take_away("rx0")
-    wait_for("it is told as gone again", lambda: running.told().count("taken again once it is back") == 2)
-    running.interrupt()
-    status, printed = running.ended()
-    judge(
-        "an interface that is away at the end is told, and in the status",
-        status == 1 and running.told().count("capture: rx0: the interface is gone\n") == 1,
-    )
-    judge("the recording is whole", YES in printed)
-    judge(
-        "with the frames before, between and after", numbers(extracted(work, out, 1)) == [*range(100), *range(200, 400)]
-    )
-    judge("and all of the other interface", numbers(extracted(work, out, 2)) == list(range(300)))
 
 
 def test_a_reader_that_leaves_ends_its_interface_alone(work: Path) -> None:
@@ -131,40 +92,6 @@ def test_a_reader_that_does_not_read_makes_the_kernel_drop_and_count(work: Path)
     counts = judge_fed(running.told(), sent, len(found))
     judge("a full pipe is waited for, and what the kernel drops meanwhile is counted", counts.dropped > 0)
     judge("what was kept is whole and in order", status == 0 and found == sorted(set(found)))
-
-
-def test_a_second_signal_waits_for_no_reader(work: Path) -> None:
-    pipe = pipe_at(work, "full.pipe")
-    running = Running(work, CAPTURE, f"rx0={pipe}")
-    with open(pipe, "rb", buffering=0):
-        running.wait_until_told("origin")
-        time.sleep(0.1)
-        send_numbered("tx0", 0, 1_500, 1_500)
-        running.interrupt()
-        time.sleep(1.5)
-        judge_quietly("it still waits", running.process.poll() is None)
-        running.interrupt()
-        judge(
-            "a second signal waits for nobody",
-            running.ended()[0] == 1 and "the run was to end at once" in running.told(),
-        )
-
-
-def test_what_the_kernel_holds_at_the_signal_is_written(work: Path) -> None:
-    """What the kernel holds when the signal comes is written."""
-    reader = Reader(pipe_at(work, "last.pipe"))
-    running = Running(work, CAPTURE, f"rx0={reader.path}")
-    running.wait_until_told("origin")
-    send("tx0", [numbered(0)])
-    wait_for("it captures", lambda: len(reader.data) > 0)
-    os.kill(running.process.pid, signal.SIGSTOP)
-    send_numbered("tx0", 1, 1_000)
-    os.kill(running.process.pid, signal.SIGTERM)
-    os.kill(running.process.pid, signal.SIGCONT)
-    judge(
-        "what the kernel still holds at the end is written",
-        running.ended()[0] == 0 and numbers(reader.all()) == list(range(1_000)),
-    )
 
 
 def latencies(work: Path, many: int) -> list[float]:
@@ -218,15 +145,6 @@ def test_short_frames_are_padded_and_too_long_ones_passed(work: Path) -> None:
     judge("check sequences are computed", all(zlib.crc32(it[:-4]).to_bytes(4, "little") == it[-4:] for it in found))
 
 
-def test_check_sequences_that_are_given_stay_and_wrong_ones_are_marked(work: Path) -> None:
-    right = with_check_sequence(numbered(1))
-    feed, _ = capture_while(work, lambda: send("tx0", [right, right[:-1] + b"\0"]), "--check-sequence", "given")
-    judge(
-        "check sequences that are given stay, and wrong ones are marked",
-        [it[1:] for it in records(feed)] == [(0, right), (1, right[:-1] + b"\0")],
-    )
-
-
 @pytest.mark.parametrize("direction, wanted", [("both", [1, 2]), ("in", [1]), ("out", [2])], ids=["both", "in", "out"])
 def test_the_direction_that_is_named_is_captured_alone(work: Path, direction: str, wanted: list[int]) -> None:
     def both_ways() -> None:
@@ -241,18 +159,6 @@ def test_a_vlan_tag_stays_where_it_was(work: Path) -> None:
     tagged = numbered(3)[:12] + b"\x81\x00\x00\x64" + numbered(3)[12:]
     feed, _ = capture_while(work, lambda: send("tx0", [tagged]))
     judge("a VLAN tag stays where it was", [it.frame[:-4] for it in records(feed)] == [tagged])
-
-
-@pytest.mark.parametrize(
-    "word, origin", [("zero", 0), ("2026-01-01T00:00:00Z", 1_767_225_600 * 10**7)], ids=["zero", "time"]
-)
-def test_counters_are_the_ticks_since_the_origin(work: Path, word: str, origin: int) -> None:
-    """Counters are the ticks since then; the origin that is told has the turns of the counters added."""
-    begin = time.time_ns() // 100
-    feed, told = capture_while(work, lambda: send("tx0", [numbered(4)]), "--origin", word)
-    off = (records(feed)[0].counter - (begin - origin)) % 2**48
-    noted = begin - (begin - origin) % 2**48
-    judge(f"--origin {word}", 0 <= off < 10**8 and origin_told(told) // 100 == noted, told)
 
 
 def test_it_captures_promiscuously_unless_told_otherwise(work: Path) -> None:

@@ -104,22 +104,6 @@ def test_no_mark_is_ahead_of_a_frame_that_comes_later(work: Path, seed: int) -> 
 # ---- other feeds, and interfaces that go
 
 
-def test_marks_go_over_to_the_next_feed_and_are_in_no_count(work: Path) -> None:
-    readers = [Reader(pipe_at(work, "one.pipe"))]
-    running = begin(work, span=SHORTEST)
-    for turn in range(10):
-        send_numbered("tx0", 100 * turn, 100 * (turn + 1))
-        time.sleep(0.05)
-        readers.append(Reader(pipe_at(work, "one.pipe")))
-        running.process.send_signal(signal.SIGUSR1)
-        wait_for("the next feed has marks", lambda: marks_of(bytes(readers[-1].data)))
-    told = judge_ended(running)
-    feeds = [it.all() for it in readers]
-    judge("each frame is of one feed", numbers_in(map(frames_of, feeds)) == list(range(1_000)))
-    judge_fed(told, 1_000, sum(len(frames_of(it)) for it in feeds))
-    judge_order(b"".join(feeds))
-
-
 def test_a_feed_that_is_held_or_has_no_reader_gets_no_mark(work: Path) -> None:
     """And the next one has the frames that came meanwhile, with no mark ahead of them."""
     pipe = pipe_at(work, "one.pipe")

@@ -32,7 +32,7 @@ pytestmark = [pytest.mark.timed, pytest.mark.usefixtures("namespace")]
 NET_RAW, READ_FILES = 1 << 13, 1 << 1 | 1 << 2
 # By which rights are given up, as dev/trials/lib/failing_rights.c names it: capset, PR_SET_NO_NEW_PRIVS and PR_CAP_AMBIENT.
 GIVING_UP = ["capset", 38, 47]
-NOT_GIVEN_UP = "capture: privileges can't be given up: Operation not permitted\n"
+NOT_GIVEN_UP = "bpfrec capture: privileges can't be given up: Operation not permitted\n"
 
 
 def test_a_thread_that_cannot_be_started_is_said_by_its_own_error(work: Path) -> None:
@@ -43,9 +43,11 @@ def test_a_thread_that_cannot_be_started_is_said_by_its_own_error(work: Path) ->
     running = Running(work, CAPTURE, *words, adds={"LD_PRELOAD": str(library), "FAILING_THREAD": "2"})
     status, told = running.ended()[0], running.told()
     judge("a thread that can't be started is a fault", status == 1, told)
-    judge("it is said by its error", "capture: no thread: Resource temporarily unavailable\n" in told, told)
+    judge("it is said by its error", "bpfrec capture: no thread: Resource temporarily unavailable\n" in told, told)
     judge(
-        "the one that ran has ended as by a signal", "capture: rx0 frames 0 " in told and readers[0].all() == b"", told
+        "the one that ran has ended as by a signal",
+        "bpfrec capture: rx0 frames 0 " in told and readers[0].all() == b"",
+        told,
     )
     os.close(os.open(readers[1].path, os.O_WRONLY | os.O_NONBLOCK))
 
@@ -113,7 +115,7 @@ def test_without_privileges_files_are_converted(work: Path) -> None:
 
 @pytest.mark.parametrize(
     "spared, line",
-    [(1, "capture: cap_net_raw can't be put in force: "), (2, "capture: cap_net_raw stays in force: ")],
+    [(1, "bpfrec capture: cap_net_raw can't be put in force: "), (2, "bpfrec capture: cap_net_raw stays in force: ")],
 )
 def test_a_permission_that_cannot_be_kept_for_later_is_said(work: Path, spared: int, line: str) -> None:
     """Where the permission can't be taken for an interface that comes back, or not given up, a line says so."""

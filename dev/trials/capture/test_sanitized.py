@@ -122,8 +122,5 @@ def test_drawn_bytes_leave_no_report_of_the_readers(work: Path) -> None:
     limits = [f"-max_total_time={FUZZ_SECONDS}", "-rss_limit_mb=2048", "-timeout=10", f"-artifact_prefix={work}/"]
     done = outcome(fuzzer, *limits, drawn, CORPUS, errors="replace", seconds=PATIENCE)
     runs = [it for it in done.stderr.splitlines() if it.startswith("Done ")]
-    judge(
-        f"the readers of capture files take what is drawn: {runs[-1] if runs else ''}",
-        done.returncode == 0,
-        done.stderr[-2000:],
-    )
+    holds = done.returncode == 0
+    judge(f"the readers of capture files take what is drawn: {runs[-1] if runs else ''}", holds, done.stderr[-2000:])

@@ -101,18 +101,16 @@ def judge_several(flight: Flight, told: str) -> None:
 
 def judge_scapy(flight: Flight, told: str) -> None:
     lines = told.splitlines()
-    judge(
-        "each frame of the channel", len(lines) == len(flight.feeds[1]) and all(" 50001 " in it for it in lines), told
-    )
+    holds = len(lines) == len(flight.feeds[1]) and all(" 50001 " in it for it in lines)
+    judge("each frame of the channel", holds, told)
 
 
 def judge_pandas(flight: Flight, told: str) -> None:
     sizes = {channel: sum(len(it.frame) for it in feed) for channel, feed in flight.feeds.items()}
     rows = [it.split() for it in told.splitlines()]
     for channel, feed in flight.feeds.items():
-        judge_quietly(
-            f"channel {channel}", [str(channel), str(len(feed)), str(sizes[channel])] in [it[:3] for it in rows]
-        )
+        holds = [str(channel), str(len(feed)), str(sizes[channel])] in [it[:3] for it in rows]
+        judge_quietly(f"channel {channel}", holds)
     judge("counts and bytes of both channels, and the filters", told.count("6 0 0 ") >= 2 or "listing" in told, told)
 
 

@@ -27,11 +27,7 @@ from namespace import make_quiet, run_batch, set_link, socket_into, turn_offload
 from support import ROOT, judge_quietly
 
 WANTED = ("bin/bpfrec",)
-WANTED_BY = {
-    "live": ("bin/capture", "ip", "ssh-keygen"),
-    "tcpdump": ("tcpdump",),
-    "tshark": ("tshark",),
-}
+WANTED_BY = {"live": ("bin/capture", "ip", "ssh-keygen"), "tcpdump": ("tcpdump",), "tshark": ("tshark",)}
 MARK = "== end of a command =="
 FRAMES_A_SECOND = 200
 PATIENCE = 180

@@ -11,7 +11,9 @@ from recordings import extracted, facts_of
 from support import judge
 
 LOSSES = ("dropped", "missed", "skipped")
-COUNTS = re.compile(r"capture: (\S+) frames (\d+) bytes (\d+) dropped (\d+) missed (\d+) skipped (\d+) waited (\d+)\n")
+COUNTS = re.compile(
+    r"bpfrec capture: (\S+) frames (\d+) bytes (\d+) dropped (\d+) missed (\d+) skipped (\d+) waited (\d+)\n"
+)
 
 
 class Counted(NamedTuple):
@@ -48,9 +50,8 @@ def judge_killed(told: str, recorded: list[int], sent: tuple[int, int], interfac
     judge(f"{interface}: each of {end} frames is fed or lost", found.frames + found.lost() == end, (found, told))
     judge(f"{interface}: each is recorded once, in order", recorded == sorted(set(recorded)), recorded)
     missing = sorted(set(range(first, end)).difference(recorded))
-    judge(
-        f"{interface}: none is missing but those that were lost", len(missing) <= found.lost(), (missing, found, told)
-    )
+    holds = len(missing) <= found.lost()
+    judge(f"{interface}: none is missing but those that were lost", holds, (missing, found, told))
 
 
 def judge_recorded(

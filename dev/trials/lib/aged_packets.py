@@ -4,8 +4,6 @@ and slow, all in lists.
 It shares no code with the program, whose recordings are compared with its own byte for byte.
 """
 
-from __future__ import annotations
-
 import random
 from collections.abc import Callable, Iterator, Sequence
 from typing import NamedTuple, Optional

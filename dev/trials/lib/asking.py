@@ -1,7 +1,5 @@
 """Asks the server of the status of a scripted run: as bytes, and as an answer in its parts."""
 
-from __future__ import annotations
-
 import contextlib
 import socket
 import time

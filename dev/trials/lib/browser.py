@@ -1,8 +1,6 @@
 """Chromium without a window, driven through two pipes by its DevTools protocol: opens pages, asks them, takes
 pictures."""
 
-from __future__ import annotations
-
 import base64
 import json
 import os
@@ -102,11 +100,7 @@ class Page:
 
     def resize(self, width: int, height: int) -> None:
         self.call(
-            "Emulation.setDeviceMetricsOverride",
-            width=width,
-            height=height,
-            deviceScaleFactor=1,
-            mobile=width < 600,
+            "Emulation.setDeviceMetricsOverride", width=width, height=height, deviceScaleFactor=1, mobile=width < 600
         )
 
     def open(self, url: str) -> None:

@@ -4,9 +4,6 @@ import hashlib
 import re
 from pathlib import Path
 
-from conversion.runs import captured_frames
-from conversion.streams import Input, Refused
-from corners import Read
 from frames import records
 from support import CAPTURE, outcome, run
 
@@ -36,15 +33,3 @@ def is_as_tshark_reads(capture: Path, feed: Path, chosen: str = "") -> bool:
     counted = re.search(r" frames (\d+) bytes \d+ skipped (\d+) ", told)
     counts = counted and (int(counted[1]), int(counted[2]))
     return got == kept and len(kept) > 0 and counts == (len(kept), len(read) - len(kept))
-
-
-def read_by_python(capture: Path) -> tuple[list[Read], str]:
-    """The frames that the readers of captures in Python find, and what is wrong with one."""
-    found: list[Read] = []
-    try:
-        for moment, is_whole, has_check_sequence, marks, data in captured_frames(Input(str(capture)), None):
-            counter = None if moment is None else moment // 100 % 2**48
-            found.append(Read(counter, data, is_whole, has_check_sequence, marks))
-    except Refused as fault:
-        return found, str(fault).replace(f"{capture}: ", "")
-    return found, ""

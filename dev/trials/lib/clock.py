@@ -150,7 +150,7 @@ def played(work: Path, **answers: str) -> dict[str, str]:
 # ---- frames under a clock that is set
 
 TOLD = re.compile(
-    r"capture: origin (-?\d+)\.(\d{9}) from counter (\d+) on: the clock was set by ([-+]?\d+\.\d{6,9}) s\n"
+    r"bpfrec capture: origin (-?\d+)\.(\d{9}) from counter (\d+) on: the clock was set by ([-+]?\d+\.\d{6,9}) s\n"
 )
 
 
@@ -183,9 +183,8 @@ def steps_told(told: str) -> list[float]:
 
 def judge_frames(what: str, found: list[Record], sent: list, origins: list, clock: Clock) -> None:
     """Each frame is there once, its counter is the real time since the beginning, and its time the set clock's."""
-    judge_quietly(
-        f"{what}: {len(found)} of {len(sent)} frames, in order", numbers_in([found]) == list(range(len(sent)))
-    )
+    holds = numbers_in([found]) == list(range(len(sent)))
+    judge_quietly(f"{what}: {len(found)} of {len(sent)} frames, in order", holds)
     judge_times(what, found, sent, origins, clock)
 
 
@@ -195,9 +194,8 @@ def judge_times(what: str, found: list[Record], sent: list, origins: list, clock
     for counter, number in zip(counters, numbers_in([found])):
         begin, end = sent[number]
         wrong = off(origins[0][1] + 100 * counter, begin, end)
-        judge_quietly(
-            f"{what}: counter {counter} of frame {number} is {wrong / MILLISECOND:.3f} ms off", wrong < MILLISECOND
-        )
+        holds = wrong < MILLISECOND
+        judge_quietly(f"{what}: counter {counter} of frame {number} is {wrong / MILLISECOND:.3f} ms off", holds)
         told = [origin for from_then, origin in origins if from_then <= counter][-1] + 100 * counter
         aheads = sorted([clock.ahead_at(begin), clock.ahead_at(end)])
         wrong = off(told, begin + aheads[0], end + aheads[1])

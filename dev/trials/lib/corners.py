@@ -1,8 +1,6 @@
 """Corners of formats, made once for all that read them: captures in pcapng, recordings, and the origins of facts, each
 with what is to be read in it."""
 
-from __future__ import annotations
-
 import struct
 from collections.abc import Callable, Iterator
 from typing import NamedTuple
@@ -98,8 +96,7 @@ CAPTURES: dict[str, Capture] = {
     "flags_of_other_faults": Capture(flags_of(*((1 << it,) for it in range(25, 32))), [Read(10, marks=2)] * 7),
     "flags_of_no_fault": Capture(flags_of(*((1 << it,) for it in SILENT)), [Read(10)] * len(SILENT)),
     "all_flags": Capture(
-        flags_of((0xFFFFFE1F,), (0xFFFFFE1F | 4 << 5,)),
-        [Read(10, marks=3), Read(10, has_check_sequence=True, marks=3)],
+        flags_of((0xFFFFFE1F,), (0xFFFFFE1F | 4 << 5,)), [Read(10, marks=3), Read(10, has_check_sequence=True, marks=3)]
     ),
     "flags_twice": Capture(
         flags_of((1 << 24 | 4 << 5, 1 << 25), (2 << 5, 4 << 5), (4 << 5, 1 << 31)),

@@ -1,7 +1,5 @@
 """Recordings that are drawn packet by packet, with what is known of them since they were drawn."""
 
-from __future__ import annotations
-
 import random
 from collections import Counter
 from typing import NamedTuple, Optional

@@ -99,16 +99,7 @@ def sum_of(data: bytes, width: int) -> int:
 def header_of(channel: int, lengths: tuple[int, int], sequence: int, kind: int, counter: int, is_summed: bool) -> bytes:
     """A packet's header; its lengths are those of the packet and of its data."""
     head = struct.pack(
-        "<HHIIBBBBIH",
-        SYNC,
-        channel,
-        *lengths,
-        8,
-        sequence % 256,
-        3 * is_summed,
-        kind,
-        counter % 2**32,
-        counter >> 32,
+        "<HHIIBBBBIH", SYNC, channel, *lengths, 8, sequence % 256, 3 * is_summed, kind, counter % 2**32, counter >> 32
     )
     return head + sum_of(head, 2).to_bytes(2, "little")
 
@@ -152,12 +143,7 @@ def end_data(channel: int, offered: int, kept: int) -> bytes:
 
 
 def program_packet(
-    channel: int,
-    version: int,
-    insn: tuple = (6, 0, 0, 1),
-    is_summed: bool = True,
-    count: int = 1,
-    sequence: int = 0,
+    channel: int, version: int, insn: tuple = (6, 0, 0, 1), is_summed: bool = True, count: int = 1, sequence: int = 0
 ) -> bytes:
     """The packet of a program of one instruction, as often as `count` says, from frame 0 on."""
     data = program_data(channel, version, insns_of(insn) * count)

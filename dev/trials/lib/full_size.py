@@ -2,8 +2,6 @@
 one with the shortest and the longest frames, and one whose filter has 1,024 programs of up to 4,096 instructions, each met by
 a frame."""
 
-from __future__ import annotations
-
 import os
 import subprocess
 import threading

@@ -1,8 +1,6 @@
 """A ground station for trials: a receiver of datagrams by docs/user/formats/whole_file.md alone, and a relay that loses,
 doubles and exchanges what goes through it."""
 
-from __future__ import annotations
-
 import contextlib
 import json
 import random
@@ -18,12 +16,11 @@ from typing import Any, NamedTuple, Optional
 from packets import packets_in as recorded_packets
 from recordings import extracted
 from streamed import Stream
-from support import BPFREC, SECONDS, TOOLS, judge_quietly, nanoseconds, outcome, present, wait_for
+from support import BPFREC, PUBLISH, RECEIVE, SECONDS, judge_quietly, nanoseconds, outcome, present, wait_for
 from whole_file import Origin, Setup
 from whole_file_clock import SECOND
 from whole_file_parts import ORIGIN, parts_of, recorded
 
-PUBLISH, RECEIVE = TOOLS / "publish", TOOLS / "receive"
 PUBLISHED = re.compile(r"published packets (\d+) datagrams (\d+) lost (\d+) late (\d+)\n\Z")
 RECEIVED = re.compile(
     r"received packets (\d+) datagrams (\d+) lost (\d+) doubled (\d+) damaged (\d+) skipped (\d+) foreign (\d+)\n"

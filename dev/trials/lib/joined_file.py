@@ -4,8 +4,6 @@ It takes from the second writer of one recording's file what both have: pieces, 
 it adds are the counters by one clock, and the channels' IDs in the file; joined_run.py has recordings of a run.
 """
 
-from __future__ import annotations
-
 import struct
 from collections.abc import Callable, Iterator
 from functools import partial

@@ -1,8 +1,6 @@
 """What recordings of a run become in the second writer's file of several: versions that go on, numbers and counts over
 all of them, and one end of each channel. What the audit answers of a recording is what `bpfrec audit` does."""
 
-from __future__ import annotations
-
 import struct
 from typing import NamedTuple, Optional
 

@@ -1,7 +1,5 @@
 """What may happen to a run of bpfrec live that is played, and when."""
 
-from __future__ import annotations
-
 from collections.abc import Callable
 
 from live_world import KILLED, Plan, World
@@ -100,3 +98,11 @@ def while_overlapping(world: World) -> None:
     """The next recorder has opened OUT, and the one before hasn't ended."""
     while_handing_over(world)
     world.open(world.current())
+
+
+def begun(plan: Plan, moment: Callable[[World], None] = while_going) -> World:
+    """A run that has come to this moment."""
+    world = World(plan)
+    world.machine.begin(world.time)
+    moment(world)
+    return world

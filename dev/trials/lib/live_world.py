@@ -3,8 +3,6 @@
 What the machine asks for has consequences, which come when the trial lets them: so each order can be tried.
 """
 
-from __future__ import annotations
-
 import functools
 from collections.abc import Callable
 from typing import Any

@@ -1,7 +1,5 @@
 """The one reader of packets in trials, by docs/user/formats/ alone: those of a recording, and the frames of one."""
 
-from __future__ import annotations
-
 import struct
 from collections.abc import Iterator
 from typing import NamedTuple

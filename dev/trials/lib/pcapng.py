@@ -48,16 +48,6 @@ def times_of(capture: bytes) -> list[int]:
     return [seconds * 10**9 + units for seconds, units, _, _ in frames_in(capture)]
 
 
-def rewritten(capture: bytes, byte_order: str, magic: int, nanoseconds_per_unit: int) -> bytes:
-    """A little-endian capture in nanoseconds, in another byte order and unit of time."""
-    head = struct.unpack("<" + CAPTURE_HEAD, capture[:24])
-    parts = [struct.pack(byte_order + CAPTURE_HEAD, magic, *head[1:])]
-    for seconds, nanoseconds, frame, wire in frames_in(capture):
-        units = nanoseconds // nanoseconds_per_unit
-        parts.append(struct.pack(byte_order + CAPTURED_HEAD, seconds, units, len(frame), wire) + frame)
-    return b"".join(parts)
-
-
 def with_wrong_sequences(capture: bytes) -> bytes:
     """A capture of check sequences in which each tenth one is wrong."""
     damaged, at, number = bytearray(capture), 24, 0

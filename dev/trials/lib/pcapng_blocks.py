@@ -1,7 +1,5 @@
 """The one reader of pcapng files in trials: little-endian blocks, by the standard alone."""
 
-from __future__ import annotations
-
 import io
 import struct
 from collections.abc import Iterator

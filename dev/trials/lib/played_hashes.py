@@ -1,7 +1,5 @@
 """What tests of hashes share: hashes without a run, on a loop and a key that are played."""
 
-from __future__ import annotations
-
 import json
 import os
 from collections import deque

@@ -1,7 +1,5 @@
 """The Pythons that are here, of those on which the package `bpfrec` is promised to run."""
 
-from __future__ import annotations
-
 import functools
 import os
 import shutil

@@ -5,17 +5,10 @@ import io
 import json
 import os
 import random
-import sys
 import tempfile
 from pathlib import Path
 from typing import BinaryIO, cast
 
-from frames import HEAD, feed_of, with_check_sequence
-from recorder import RECORDINGS, record, write_settings
-from sample_feeds import sample_feed
-from support import ROOT, judge_quietly
-
-sys.path.insert(0, str(ROOT / "host"))
 from bpfrec.formats.packet import Packet
 from bpfrec.formats.reader import reader_of
 from bpfrec.formats.search import BlockSums
@@ -26,6 +19,10 @@ from bpfrec_tools.info.facts_file import time_of
 from bpfrec_tools.info.page import page_parts
 from bpfrec_tools.info.text import text_parts
 from bpfrec_tools.salvage import command as salvage
+from frames import HEAD, feed_of, with_check_sequence
+from recorder import RECORDINGS, record, write_settings
+from sample_feeds import sample_feed
+from support import INFO, judge_quietly, run
 
 __all__ = ["BlockSums", "as_json", "audit_of", "page_parts", "read", "salvage", "text_parts", "time_of"]
 # The same recording without data checksums and with them.
@@ -33,13 +30,22 @@ SAMPLES = [RECORDINGS / it for it in ("two_versions.ch11", "two_versions_checked
 SEED = 1
 
 
+def put_beside(recording: Path, facts: dict) -> Path:
+    beside = Path(f"{recording}.json")
+    beside.write_text(json.dumps(facts))
+    return beside
+
+
+def json_of(recording: Path) -> dict:
+    return json.loads(run(INFO, "--json", recording))
+
+
 def facts_of(recording: Path) -> dict:
     """What info says of a recording, as JSON has it; the text and the page can be made too."""
     answer = audit_of(str(recording))
     found = read(str(recording), not answer.is_yes())
-    judge_quietly(
-        f"text and page of {recording}", [*text_parts(found, answer), *page_parts("recording", found, answer)]
-    )
+    holds = [*text_parts(found, answer), *page_parts("recording", found, answer)]
+    judge_quietly(f"text and page of {recording}", holds)
     return json.loads(json.dumps(as_json.object_of(found, answer.answer)))
 
 

@@ -14,12 +14,7 @@ from support import BPFREC, DROPS_ALL, KEEPS_ALL, ROOT, outcome, present
 RECORDINGS = ROOT / "crates/test_cases/data/recordings"
 ONE_FRAME = bytes.fromhex("200000000000 00 1200 ffffffffffff0200000000010806a1b2c3d4")
 # Those that keep half keep frames whose byte 20 is less than 128.
-LISTINGS = {
-    "all": KEEPS_ALL,
-    "none": DROPS_ALL,
-    "half": "4,48 0 0 20,53 1 0 128,6 0 0 1,6 0 0 0,",
-    "bad": "0,",
-}
+LISTINGS = {"all": KEEPS_ALL, "none": DROPS_ALL, "half": "4,48 0 0 20,53 1 0 128,6 0 0 1,6 0 0 0,", "bad": "0,"}
 # The bytes of a record of these feeds, and of a long feed how many frames it has.
 RECORD_LENGTH, MANY, FEW = 73, 1_000_000, 10_000
 READING_MEMORY = 64_000_000

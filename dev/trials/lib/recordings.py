@@ -52,7 +52,7 @@ def begin(work: Path, out: object, *options: object, adds: dict | None = None, *
     ways = more.pop("ways", ["rx0=1", "rx1=2"])
     settings = more.pop("settings", None) or settings_of(work)
     running = Running(work, LIVE, *options, settings, out, *ways, adds={RUN: str(out), **(adds or {})}, **more)
-    running.wait_until_told("capture: origin")
+    running.wait_until_told("bpfrec capture: origin")
     return running
 
 

@@ -1,7 +1,5 @@
 """The rows that tshark makes of a recording by bin/bpfrec.lua, and those that it should make."""
 
-from __future__ import annotations
-
 import hashlib
 import os
 import random

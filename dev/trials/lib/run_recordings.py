@@ -1,8 +1,6 @@
 """Recordings of a run, packet by packet, for trials of whole Chapter 11 files: they say yes to the audit where they are
 made so."""
 
-from __future__ import annotations
-
 import struct
 from typing import NamedTuple, Optional
 

@@ -1,7 +1,5 @@
 """Feeds of sample frames for trials, and captures of feeds: ARP, and UDP over IPv4."""
 
-from __future__ import annotations
-
 import random
 import struct
 from pathlib import Path

@@ -2,8 +2,6 @@
 grows. Moments begin at 1,000 s, and are nobody's but the script's.
 """
 
-from __future__ import annotations
-
 import json
 import struct
 from collections.abc import Iterable

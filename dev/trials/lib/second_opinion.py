@@ -1,7 +1,5 @@
 """The second opinion of host/second/, asked alone: what is wrong with a file, and what a whole file has."""
 
-from __future__ import annotations
-
 import io
 from pathlib import Path
 from typing import BinaryIO, NamedTuple

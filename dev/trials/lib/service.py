@@ -1,7 +1,5 @@
 """A service manager that is played: what it is told by a program, with the moments."""
 
-from __future__ import annotations
-
 import socket
 import threading
 import time

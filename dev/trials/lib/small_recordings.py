@@ -1,7 +1,5 @@
 """Small recordings of two channels, and what the Python package reads in them."""
 
-from __future__ import annotations
-
 import json
 from collections.abc import Sequence
 from pathlib import Path

@@ -1,7 +1,5 @@
 """The page of the status in Chromium, for trials that look at it; their pictures go to bin/trials/status/."""
 
-from __future__ import annotations
-
 from browser import Browser, Page
 from scripted import Flight
 from support import ROOT, judge_quietly, present

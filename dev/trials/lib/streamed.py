@@ -5,8 +5,6 @@ It takes from the second writer of whole files what both have: pieces, the clock
 what went out so far, and raises `Refused` where nothing more does.
 """
 
-from __future__ import annotations
-
 import struct
 from typing import Iterator, NamedTuple, Optional
 

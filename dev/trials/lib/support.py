@@ -10,6 +10,7 @@ import re
 import shutil
 import signal
 import subprocess
+import sys
 import threading
 import time
 from collections.abc import Callable, Iterable, Sequence
@@ -17,20 +18,23 @@ from pathlib import Path
 from typing import Any, Optional, TypeVar
 
 ROOT = Path(__file__).resolve().parents[3]
+sys.path.insert(0, str(ROOT / "host"))
+from bpfrec_tools.verbs import VERBS
+
 # Another build of either is tried by the variables BPFREC and CAPTURE, by which the tools find it too.
 BPFREC = Path(os.environ.get("BPFREC") or ROOT / "bin/bpfrec")
 CAPTURE = Path(os.environ.get("CAPTURE") or ROOT / "bin/capture")
 # The command as users call it; and each tool by a name of its own, for a trial that starts it alone.
-COMMAND, TOOLS = ROOT / "host/bin/bpfrec", ROOT / "dev/trials/lib/tools"
+COMMAND, TOOLS = ROOT / "host/bin/bpfrec", ROOT / "bin/tools"
 LIVE, INFO, EXPORT, SALVAGE, PREFLIGHT = (TOOLS / it for it in ("live", "info", "export", "salvage", "preflight"))
-CHECK, CHECK_SUMS = TOOLS / "check", ROOT / "host/second/check_sums"
+CHECK, FOLLOW, PUBLISH, RECEIVE, TELL = (TOOLS / it for it in ("check", "follow", "publish", "receive", "tell"))
+CHECK_SUMS = ROOT / "host/second/check_sums"
 # What a trial may want that a build makes, and the packages of programs that are named otherwise.
 BUILT = {"bin/bpfrec": BPFREC, "bin/capture": CAPTURE}
 PACKAGES = {
     **dict.fromkeys(("capinfos", "dumpcap", "editcap", "mergecap"), "wireshark-common"),
     "cc": "gcc",
     "dpkg-deb": "dpkg",
-    "import": "imagemagick",
     "ip": "iproute2",
     "man": "man-db",
     "mkfs.ext4": "e2fsprogs",
@@ -40,7 +44,6 @@ PACKAGES = {
     "setcap": "libcap2-bin",
     "setpriv": "util-linux",
     **dict.fromkeys(("ssh-agent", "ssh-keygen"), "openssh-client"),
-    "Xvfb": "xvfb",
 }
 # The modules and C files that trials share, and the scripts of hours.
 LIBRARY, LONG = ROOT / "dev/trials/lib", ROOT / "dev/trials/long"
@@ -75,6 +78,16 @@ def missing(wanted: Iterable[str]) -> list[str]:
     return found + ([f"{' '.join(packages)} (make packages)"] if packages else [])
 
 
+def link_tools() -> None:
+    """Makes the link of each tool, by which host/tool knows what it is to run."""
+    TOOLS.mkdir(parents=True, exist_ok=True)
+    for name, verb in VERBS.items():
+        if verb.is_tool and not (TOOLS / name).is_symlink():
+            with contextlib.suppress(FileExistsError):
+                (TOOLS / name).symlink_to(ROOT / "host/tool")
+
+
+link_tools()
 T = TypeVar("T")
 
 

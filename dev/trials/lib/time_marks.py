@@ -1,7 +1,5 @@
 """The time marks of a feed, and what is asked of them, for trials of the capture."""
 
-from __future__ import annotations
-
 import time
 from pathlib import Path
 

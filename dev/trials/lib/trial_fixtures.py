@@ -86,6 +86,15 @@ def sample(work: Path) -> Path:
 
 
 @pytest.fixture(scope="module")
+def three(place: Path) -> Path:
+    """A recording of three channels."""
+    # Here, since other trials read no recording.
+    from reading import recording_of_three
+
+    return recording_of_three(place)
+
+
+@pytest.fixture(scope="module")
 def long_feed(place: Path) -> Path:
     """A feed of a million frames."""
     return recorder.make_feed(place / "long.feed", recorder.MANY)

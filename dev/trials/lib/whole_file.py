@@ -4,8 +4,6 @@ It shares no code with the program, whose files are compared with its own byte f
 files. `whole_file` gives a file's bytes and its counts, or raises `Refused`.
 """
 
-from __future__ import annotations
-
 import struct
 from collections import Counter, deque
 from typing import Collection, Iterable, Iterator, NamedTuple, Optional
@@ -148,13 +146,7 @@ def setup_body(setup: Setup, channels: Collection[int], time_channel: int, first
     lines += ["R-1\\RI3:Y", f"R-1\\RI4:{said.date_text()}-{hour:02}-{minute:02}-{second:02}", "R-1\\NSB:0"]
     lines += ["R-1\\IDX\\E:T", "R-1\\IDX\\IT:C", "R-1\\IDX\\ICV:1"] if is_indexed else ["R-1\\IDX\\E:F"]
     lines += ["R-1\\EV\\E:F", f"R-1\\N:{len(channels) + 1}"]
-    lines += [
-        f"R-1\\TK1-1:{time_channel}",
-        "R-1\\TK4-1:1",
-        "R-1\\CHE-1:T",
-        "R-1\\DSI-1:TIME",
-        "R-1\\CDT-1:TIMEIN",
-    ]
+    lines += [f"R-1\\TK1-1:{time_channel}", "R-1\\TK4-1:1", "R-1\\CHE-1:T", "R-1\\DSI-1:TIME", "R-1\\CDT-1:TIMEIN"]
     lines += ["R-1\\TTF-1:1", "R-1\\TFMT-1:I", f"R-1\\TSRC-1:{source}"]
     for number, channel in enumerate(sorted(channels), 2):
         name, net = setup.channels.get(channel, ("channel", 0))

@@ -1,8 +1,6 @@
 """The clock of the second writer of whole Chapter 11 files: the time of a counter, and time packets, where they stand and
 what they say."""
 
-from __future__ import annotations
-
 import datetime
 import struct
 from bisect import bisect_right

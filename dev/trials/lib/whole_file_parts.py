@@ -1,7 +1,5 @@
 """Whole Chapter 11 files for trials: of drawn recordings, by the second writer, and taken apart to be damaged."""
 
-from __future__ import annotations
-
 import io
 import random
 from collections.abc import Callable, Iterable

@@ -86,11 +86,7 @@ def judge_joined(work: Path, what: str, recordings: list[bytes], setup: Table) -
 
 
 def judge_same(
-    work: Path,
-    what: str,
-    done: subprocess.CompletedProcess,
-    wanted: Callable[[], File],
-    has_recording: bool = False,
+    work: Path, what: str, done: subprocess.CompletedProcess, wanted: Callable[[], File], has_recording: bool = False
 ) -> str:
     """What was done is as it is wanted: the line that was printed. A refusal may have the place of its recording."""
     out, found = work / "flight.ch10", (done.returncode, done.stdout, done.stderr)

@@ -6,7 +6,6 @@ The alarm is that of a clock that isn't synchronised, by a kernel that says so.
 
 import contextlib
 import os
-import random
 import re
 import signal
 import time
@@ -21,7 +20,6 @@ from support import LIVE, PREFLIGHT, Running, judge, judge_quietly, outcome, wai
 
 WANTED = ("bin/bpfrec", "bin/capture", "ip")
 pytestmark = [pytest.mark.timed, pytest.mark.usefixtures("namespace")]
-SEED, KILLS = 20_261_128, 12
 BEGUN = "begins|clock|-|the clock is not synchronised|"
 DEAF = "trap '' TERM; while :; do sleep 1; done"
 
@@ -69,26 +67,6 @@ def test_a_program_is_run_when_an_alarm_begins_and_when_it_ends(work: Path) -> N
     live.interrupt()
     judge("live ends well", live.ended()[0] == 0 and "--on-alarm" not in live.told(), live.told())
     judge_whole(work, out, 100)
-
-
-def test_a_program_that_is_killed_at_any_moment_spoils_nothing(work: Path) -> None:
-    draw, out = random.Random(SEED), work / "k.ch11"
-    live, kernel = recorded(work, out, text="exec sleep 3")
-    traffic, killed = Traffic(), 0
-    for turn in range(KILLS):
-        (work / "pid").unlink(missing_ok=True)
-        kernel.set(turn % 2 == 1)
-        wait_for("it runs", lambda: (work / "pid").exists() and (work / "pid").read_text().endswith("\n"), 8)
-        time.sleep(draw.random() ** 4)
-        with contextlib.suppress(ProcessLookupError):
-            os.kill(int((work / "pid").read_text()), signal.SIGKILL)
-            killed += 1
-    count = traffic.end()
-    time.sleep(0.2)
-    live.end_well()
-    told = live.told().count("alarm was ended by signal 9\n")
-    judge(f"{killed} were killed, which is said of each", killed > KILLS / 2 and told == killed, live.told())
-    judge_whole(work, out, count)
 
 
 def test_a_program_that_hangs_holds_up_neither_frames_nor_the_end(work: Path) -> None:
@@ -140,7 +118,7 @@ def test_a_program_that_is_missing_is_refused_before_anything_is_begun(work: Pat
     judge("by its name", (done.returncode, done.stderr) == (3, f"bpfrec live: {why}"), done)
     judge("nothing was begun", not out.exists())
     done = outcome(PREFLIGHT, "--live", *words)
-    is_said = done.stdout.startswith(f"live: {why}") and done.stdout.endswith("\n1 fault\n")
+    is_said = done.stdout.startswith(f"bpfrec live: {why}") and done.stdout.endswith("\n1 fault\n")
     judge("preflight says so", done.returncode == 1 and is_said, done)
     done = outcome(LIVE, "--on-alarm", "'x", out, "rx0")
     line = "bpfrec live: --on-alarm needs a command: no closing quotation\n"
@@ -175,15 +153,15 @@ def test_lines_for_the_journal_have_their_priorities(work: Path, quiet: list[str
     lines = live.told().splitlines()
     judge("each line has one", all(re.match("<[346]>[^<]", it) for it in lines), live.told())
     for line in (
-        r"<6>capture: origin \d+\.\d{9}",
+        r"<6>bpfrec capture: origin \d+\.\d{9}",
         r"<6>installed 1 1 \d+",
         r"<4>refused 1 File: .*/missing: no such file",
         r"<6>bpfrec live: clock: synchronised, off by at most 0\.000500 s",
         r"<3>bpfrec live: clock: not synchronised: --require-clock: the clock is not synchronised",
-        r"<6>capture: rx0 frames 50 .*",
+        r"<6>bpfrec capture: rx0 frames 50 .*",
     ):
         judge_quietly(f"{line}: {lines}", any(re.fullmatch(line, it) for it in lines))
-    counts = [it for it in lines if re.match("<6>capture: rx0 frames ", it)]
+    counts = [it for it in lines if re.match("<6>bpfrec capture: rx0 frames ", it)]
     judge(f"{len(counts)} lines of counts", len(counts) == 1 if quiet else len(counts) > 2, lines)
 
 
@@ -196,13 +174,3 @@ def test_refusals_are_errors_to_the_journal(work: Path) -> None:
         running = Running(work, LIVE, *words, settings_of(work), work / "r.ch11", "rx0=1", "rx1=2", adds=adds)
         status, _ = running.ended()
         judge(line.strip(), status in (2, 3) and running.told().startswith(line), running.told())
-
-
-def test_another_standard_error_has_no_priorities(work: Path) -> None:
-    live = begin(work, work / "n.ch11", adds={"JOURNAL_STREAM": "1:1"})
-    live.wait_until_told("bpfrec live: clock: ")
-    live.interrupt()
-    judge("live ends well", live.ended()[0] == 0)
-    judge(
-        "its lines are as ever", "<" not in live.told() and "\nbpfrec live: clock: " in f"\n{live.told()}", live.told()
-    )

@@ -1,8 +1,6 @@
 """Tries a campaign of four recorders, each with a tap of its own and all with one origin: what is made of their
 recordings has each frame of each tap once, and the frames of one event at one time."""
 
-from __future__ import annotations
-
 import time
 from pathlib import Path
 from typing import NamedTuple

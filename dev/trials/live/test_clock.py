@@ -45,15 +45,12 @@ def test_the_facts_have_the_origins_that_are_told(work: Path) -> None:
         found = records(extracted(work, out, channel))
         judge_frames(f"bpfrec live: channel {channel}", found, sender.sent, origins_told(told), clock)
     judge_steps("live", told, wanted)
-    judge("bpfrec live: counters go on, and with the origins that are told each frame has its time", True)
     facts = facts_of(out)["origins"]
     judge("the facts have the origins that are told, in order", origins_of(facts) == origins_told(told))
     judge("each has its scale", {it["scale"] for it in facts} == {"UTC"}, facts)
     steps = [nanoseconds(*it["set_by"].split(".")) for it in facts[1:]]
-    judge(
-        "and by how much the clock was set",
-        "set_by" not in facts[0] and all(abs(a - b) < MILLISECOND for a, b in zip(steps, wanted, strict=True)),
-    )
+    holds = "set_by" not in facts[0] and all(abs(a - b) < MILLISECOND for a, b in zip(steps, wanted, strict=True))
+    judge("and by how much the clock was set", holds)
 
 
 def test_each_recording_has_the_times_of_its_own_facts(work: Path) -> None:
@@ -68,14 +65,11 @@ def test_each_recording_has_the_times_of_its_own_facts(work: Path) -> None:
     running.interrupt()
     status, printed = running.ended()
     files = recordings(work, "part")
-    judge(
-        f"{len(files)} recordings follow one another",
-        status == 0 and len(files) > 1 and printed.count(YES) == len(files),
-    )
+    holds = status == 0 and len(files) > 1 and printed.count(YES) == len(files)
+    judge(f"{len(files)} recordings follow one another", holds)
     for channel in (1, 2):
         parts = parts_of(work, "part", channel)
         judge("each frame is in one", numbers_in(parts) == list(range(len(sender.sent))))
         for path, part in zip(files, parts):
             origins = origins_of(facts_of(path)["origins"])
             judge_times(f"{path.name}: channel {channel}", part, sender.sent, origins, clock)
-    judge("by the facts beside each its frames have their times", True)

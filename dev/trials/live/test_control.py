@@ -36,7 +36,7 @@ def test_each_line_is_answered(work: Path, run: Running) -> None:
     judge("the owner's alone", stat.S_IMODE((work / "control").stat().st_mode) == 0o600)
     done = ask(work, "set", "1", "udp", "port", "5004")
     judge("a filter", (done.returncode, done.stdout, done.stderr) == (0, "installed 1 1 0\n", ""), done)
-    done = ask(work, "set", "1", "")
+    done = ask(work, "set", "1", "all")
     judge("all frames", (done.returncode, done.stdout, done.stderr) == (0, "installed 1 2 0\n", ""), done)
     done = ask(work, "mark", "gear up")
     judge("a mark", done.returncode == 0 and done.stdout.startswith("marked "), done)
@@ -219,12 +219,44 @@ def test_a_line_longer_than_any_lets_its_client_go(work: Path, run: Running) -> 
     run.end_well()
 
 
+def test_a_run_of_interfaces_is_told_by_its_name(work: Path, namespace: None) -> None:
+    """By the socket beside it, without --control; a second run of that name is refused while it goes on."""
+    first = begin(work, work / "flight.ch11", "--quiet", "--every", "1h")
+    judge("it is the owner's alone", stat.S_IMODE((work / "flight.control").stat().st_mode) == 0o600)
+    for name in ("flight.ch11", "flight", "flight.control"):
+        done = outcome(CONTROL, "--wait", 20, name, "mark", "gear up", cwd=work)
+        judge(f"by {name}", done.returncode == 0 and done.stdout.startswith("marked "), done)
+    words, what = ("--every", "1h", work / "flight.ch11", "rx0=1"), "flight.control: another run takes lines there"
+    for done in (outcome(LIVE, *words), outcome(PREFLIGHT, "--live", *words)):
+        judge("a second run", done.returncode in (1, 3) and what in done.stdout + done.stderr, done)
+    first.end_well()
+    judge("the socket goes with the run", not (work / "flight.control").exists())
+    done = outcome(CONTROL, "flight.ch11", "status", cwd=work)
+    line = "bpfrec tell: flight.ch11: nobody listens there, or at flight.control\n"
+    judge("nobody listens", (done.returncode, done.stderr) == (3, line), done)
+
+
+def test_a_run_without_its_usual_socket_goes_on(work: Path, namespace: None) -> None:
+    """What stands in its place is left, and a line says so; captures and devices have none."""
+    (work / "flight.control").write_text("a file")
+    run = begin(work, work / "flight.ch11", "--quiet")
+    what = f"warning: bpfrec tell finds no socket: --control {work}/flight.control: it exists, and is no socket"
+    judge("it says so", what in run.told(), run.told())
+    run.end_well()
+    judge("the file is left", (work / "flight.control").read_text() == "a file")
+    run = begin(work, "/dev/null", "--quiet")
+    judge("a device has none", not Path("/dev/null.control").exists() and "no socket" not in run.told(), run.told())
+    run.end_well()
+
+
 def test_what_stands_at_the_path(work: Path, run: Running) -> None:
     """A socket that somebody listens at, or another file, is left; one that nobody listens at is replaced."""
     words = ("--quiet", "--control", work / "control")
     second = begin(work, work / "second.ch11", *words)
     status, _ = second.ended()
-    judge("another run listens", status == 3 and "another program listens there" in second.told(), second.told())
+    judge(
+        "another run listens", status == 3 and "control: another run takes lines there" in second.told(), second.told()
+    )
     os.kill(run.process.pid, signal.SIGKILL)
     run.process.wait()
     judge_quietly("it is left by a run that was killed", (work / "control").exists())
@@ -241,7 +273,7 @@ def test_what_stands_at_the_path(work: Path, run: Running) -> None:
         full.listen(0)
         queued.connect(str(work / "full"))
         done = outcome(LIVE, "--control", work / "full", work / "none.ch11", "rx0=1")
-    judge("one that takes no connection listens too", done.returncode == 3 and "listens there" in done.stderr, done)
+    judge("one that takes no connection listens too", done.returncode == 3 and "another run takes" in done.stderr, done)
     (work / "link").symlink_to(work / "nowhere")
     done = outcome(LIVE, "--control", work / "link", work / "none.ch11", "rx0=1")
     judge("a link that leads nowhere", done.returncode == 3 and "leads nowhere" in done.stderr, done)

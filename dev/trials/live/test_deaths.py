@@ -16,7 +16,6 @@ from recordings import (
     folder_of,
     is_approved,
     is_recording,
-    nothing_left,
     parts_of,
     process_of,
     processes_of,
@@ -52,7 +51,6 @@ def test_a_recorder_that_opens_its_pipes_ends(work: Path) -> None:
     process_of(out, BPFREC, " record ")
     kill_both(running, out)
     judge_end(out)
-    judge("it has ended", True)
 
 
 def test_one_that_opens_its_pipes_beside_another_ends(work: Path) -> None:
@@ -97,7 +95,6 @@ def test_whenever_both_are_killed_all_ends(work: Path, moment: float) -> None:
     traffic.end()
     for recording in recordings(work, "drawn"):
         judge_quietly(f"{recording.name} is whole", recording.stat().st_size == 0 or is_approved(recording))
-    judge("all has ended, and what was recorded is whole", True)
 
 
 def test_what_they_left_is_told_at_the_next_start(work: Path) -> None:
@@ -119,13 +116,6 @@ def test_what_they_left_is_told_at_the_next_start(work: Path) -> None:
     for start in (second, third):
         start.end_well()
     judge("it is left as it is", Path(left[0]).is_dir())
-
-
-def test_no_line_where_nothing_is_left(work: Path) -> None:
-    running = begin(work, work / "none.ch11", "--quiet")
-    running.interrupt()
-    status, told = running.ended()[0], running.told()
-    judge("no line", status == 0 and "left of runs" not in told and nothing_left(work), told)
 
 
 @pytest.mark.parametrize("words", [[], ["--force"]], ids=["plain", "force"])

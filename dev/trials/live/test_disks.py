@@ -81,10 +81,8 @@ def test_what_was_forced_is_on_a_disk_whose_power_is_lost(work: Path, words: lis
         time.sleep(0.1)
         running.interrupt()
         status, printed = running.ended()
-        judge(
-            f"{' '.join(map(str, words)) or 'forced to its disk'}: it records",
-            status == 0 and YES in printed and numbers(extracted(work, out, 1)) == list(range(sent)),
-        )
+        holds = status == 0 and YES in printed and numbers(extracted(work, out, 1)) == list(range(sent))
+        judge(f"{' '.join(map(str, words)) or 'forced to its disk'}: it records", holds)
 
 
 # ---- a full disk
@@ -151,15 +149,10 @@ def judge_going_on(work: Path, disk: Path, name: str, words: list) -> None:
     time.sleep(0.3)
     running.interrupt()
     (status, printed), told = running.ended(), running.told()
-    judge(
-        f"{name}: recordings go on once a full disk has room, and the status is 1",
-        status == 1 and told.count(line) == 1,
-        (status, printed, told),
-    )
+    holds = status == 1 and told.count(line) == 1
+    judge(f"{name}: recordings go on once a full disk has room, and the status is 1", holds, (status, printed, told))
     later = [it for it in recordings(disk, name) if it not in before]
     judge(f"{name}: later recordings are approved", later != [] and all(is_approved(it) for it in later))
     after = [number for it in later for number in numbers(extracted(work, it, 1))]
-    judge(
-        f"{name}: and have the frames that came then",
-        after[-200:] == list(range(sent, sent + 200)) and after == sorted(set(after)),
-    )
+    holds = after[-200:] == list(range(sent, sent + 200)) and after == sorted(set(after))
+    judge(f"{name}: and have the frames that came then", holds)

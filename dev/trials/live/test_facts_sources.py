@@ -130,8 +130,8 @@ def ends(seen: Seen) -> list:
 
 def steps_told(seen: Seen) -> list[tuple[str, str]]:
     """The origins that were printed, each with its counter."""
-    first = re.findall(r"capture: origin (\S+)\n", seen.told)
-    return [(first[0], "0"), *re.findall(r"capture: origin (\S+) from counter (\d+) on", seen.told)]
+    first = re.findall(r"bpfrec capture: origin (\S+)\n", seen.told)
+    return [(first[0], "0"), *re.findall(r"bpfrec capture: origin (\S+) from counter (\d+) on", seen.told)]
 
 
 def address(interface: str) -> str:

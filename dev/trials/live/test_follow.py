@@ -1,8 +1,6 @@
 """Tries bpfrec follow beside bpfrec live: what it shows is what the recordings have, in time, and it changes nothing
 of them."""
 
-from __future__ import annotations
-
 import contextlib
 import fcntl
 import os
@@ -21,12 +19,11 @@ from ground import drawn_flight
 from namespace import socket_into
 from pcapng_blocks import COMMENT, INTERFACE, NAME, PACKET, Block, Frame, blocks_of, frames_in
 from recordings import Traffic, begin, extracted, facts_of, has_open, is_approved, parts_of, recordings, write_settings
-from support import BPFREC, EXPORT, TOOLS, judge, judge_quietly, outcome, run, wait_for
+from support import BPFREC, EXPORT, FOLLOW, judge, judge_quietly, outcome, run, wait_for
 from whole_file_parts import ORIGIN
 
 WANTED = ("bin/bpfrec", "bin/capture", "ip", "tshark")
 pytestmark = [pytest.mark.usefixtures("namespace")]
-FOLLOW = TOOLS / "follow"
 SECONDS = 60
 
 
@@ -123,41 +120,21 @@ def test_frames_of_recordings_that_follow_one_another_are_shown_once(work: Path)
 
 
 @pytest.mark.timed
-def test_a_frame_is_shown_soon_after_it_came(work: Path) -> None:
-    """At nearly a thousand a second of 300 bytes, half of them within a second; on a quiet machine within 0.3."""
-    out = work / "soon.ch11"
-    running = begin(
-        work, out, "--quiet", settings=write_settings(work, f'id = 1\nfilter = "{work}/all"'), ways=["rx0=1"]
-    )
-    follower = Follower(work, out)
-    with socket_into("tx0") as one:
-        for number in range(4_000):
-            one.send(numbered(number, 300))
-            time.sleep(0.001)
-    time.sleep(1)
-    late = [it.came - it.moment / 1e9 for it in follower.shown]
-    running.interrupt()
-    judge_quietly("it ends well", (running.ended()[0], follower.ended()) == (0, 0), running.told())
-    judge_quietly("it shows most of them while they come", len(late) > 3_000, len(late))
-    judge(f"half of them within a second: {statistics.median(late):.3f}", statistics.median(late) <= 1)
-
-
-@pytest.mark.timed
-def test_few_frames_are_shown_as_soon_as_their_span_says(work: Path) -> None:
-    """Twenty a second, half of them within a second by the usual span; on a quiet machine within 0.5."""
-    out = work / "few.ch11"
-    settings = write_settings(work, f'id = 1\nfilter = "{work}/all"')
+@pytest.mark.parametrize("count, pause", [(4_000, 0.001), (160, 0.05)], ids=["many", "few"])
+def test_a_frame_is_shown_soon_after_it_came(work: Path, count: int, pause: float) -> None:
+    """Half of them within a second, also of few, by the usual span; on a quiet machine within 0.5."""
+    out, settings = work / "soon.ch11", write_settings(work, f'id = 1\nfilter = "{work}/all"')
     running = begin(work, out, "--quiet", settings=settings, ways=["rx0=1"])
     follower = Follower(work, out)
     with socket_into("tx0") as one:
-        for number in range(160):
-            one.send(numbered(number))
-            time.sleep(0.05)
+        for number in range(count):
+            one.send(numbered(number, 300))
+            time.sleep(pause)
     time.sleep(1.5)
     late = [it.came - it.moment / 1e9 for it in follower.shown]
     running.interrupt()
     judge_quietly("it ends well", (running.ended()[0], follower.ended()) == (0, 0), running.told())
-    judge_quietly("it shows most of them while they come", len(late) > 100, len(late))
+    judge_quietly("it shows most of them while they come", len(late) > count * 0.6, len(late))
     judge(f"half of them within a second: {statistics.median(late):.3f}", statistics.median(late) <= 1)
 
 
@@ -209,11 +186,8 @@ def test_ctrl_c_ends_it_with_a_line(work: Path) -> None:
     time.sleep(1)
     follower.process.send_signal(signal.SIGINT)
     status = follower.ended(10)
-    judge(
-        "as other tools",
-        (status, (work / "follow.errors").read_text()) == (130, "bpfrec follow: interrupted\n"),
-        status,
-    )
+    holds = (status, (work / "follow.errors").read_text()) == (130, "bpfrec follow: interrupted\n")
+    judge("as other tools", holds, status)
     running.end_well()
 
 

@@ -107,7 +107,5 @@ def test_one_signal_at_a_handover_ends_it_with_all_frames(
     judge("each recording is approved", printed.count(YES) == len(files) == 2 and nothing_left(work), (printed, told))
     judge("nothing is dropped", len(re.findall(r" dropped 0 ", told)) == count and "LOST" not in told, told)
     found = numbers_in(parts_of(work, "turn", 1))
-    judge(
-        f"of {len(found)} frames none is missing, and {ahead} were sent ahead",
-        found == list(range(len(found))) and len(found) >= ahead,
-    )
+    holds = found == list(range(len(found))) and len(found) >= ahead
+    judge(f"of {len(found)} frames none is missing, and {ahead} were sent ahead", holds)

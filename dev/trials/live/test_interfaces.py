@@ -1,6 +1,5 @@
 """Tries bpfrec live on interfaces that come back, with permissions that it gives up, and by an adapter's clock."""
 
-import contextlib
 import os
 import re
 import shutil
@@ -10,32 +9,16 @@ from collections.abc import Callable
 from pathlib import Path
 
 import pytest
-from clock import preloaded
-from frames import numbered, numbers, records
-from namespace import make_pair, send, send_together, set_link, take_away, wait_until_up
+from frames import numbers, records
+from namespace import make_pair, send_together, set_link, take_away, wait_until_up
 from recordings import RUN, YES, begin, extracted, facts_of, judge_parts, process_of, recordings, settings_of
 from served import address_in, status_of
-from support import (
-    BPFREC,
-    CAPTURE,
-    INFO,
-    NOBODY,
-    ROOT,
-    SECOND,
-    Reader,
-    Running,
-    judge,
-    judge_quietly,
-    origin_told,
-    outcome,
-    pipe_at,
-    wait_for,
-)
+from support import BPFREC, CAPTURE, INFO, NOBODY, ROOT, Running, judge, judge_quietly, outcome, wait_for
 
 WANTED = ("bin/bpfrec", "bin/capture", "ip", "cc", "pcap-config", "setcap")
 pytestmark = [pytest.mark.timed, pytest.mark.usefixtures("namespace")]
-GONE = "capture: rx0: the interface is gone, and is taken again once it is back\n"
-BACK = "capture: rx0: it is back\n"
+GONE = "bpfrec capture: rx0: the interface is gone, and is taken again once it is back\n"
+BACK = "bpfrec capture: rx0: it is back\n"
 MEMBERS = 4_242
 NET_RAW = 1 << 13
 
@@ -44,7 +27,6 @@ NET_RAW = 1 << 13
 
 @pytest.mark.parametrize("words", [[], ["--every", 1]], ids=["single", "every"])
 def test_an_interface_that_is_taken_away_and_made_anew_is_recorded_again(work: Path, words: list) -> None:
-    """An interface that is taken away and made anew, twice."""
     running = begin(work, work / "back.ch11", "--quiet", *words)
     send_together(0, 100)
     for turn in (1, 2):
@@ -110,8 +92,8 @@ def test_an_interface_without_frames_is_an_alarm_and_an_interruption_of_the_fact
         "no carrier": (lambda: set_link("tx0", "down"), lambda: set_link("tx0", "up")),
         "gone": (lambda: take_away("rx0"), lambda: make_pair(0)),
     }
-    for why, (leave, come_back) in ways.items():
-        send_together(0, 10)
+    for turn, (why, (leave, come_back)) in enumerate(ways.items()):
+        send_together(10 * turn, 10)
         leave()
         wait_for(lambda: f"an alarm: {running.told()}", lambda: away_in(running) == why, 10)
         time.sleep(1.2 if words else 0)
@@ -119,6 +101,7 @@ def test_an_interface_without_frames_is_an_alarm_and_an_interruption_of_the_fact
         wait_for("it is back", lambda: away_in(running) is None, 10)
     running.end_well()
     files = recordings(work, "link") if words else [work / "link.ch11"]
+    judge_parts("each frame before is there", [records(extracted(work, it, 1)) for it in files], list(range(30)))
     found = [it for file in files for it in facts_of(file)["interruptions"]]
     judge("each is of rx0, and has an end", {it["interface"] for it in found} == {"rx0"} and found[-1]["to"], found)
     begun = {it["from"]: it["why"] for it in found}
@@ -145,15 +128,6 @@ def judge_permissions(what: str, pid: int) -> None:
             for it in told
         ),
     )
-
-
-def test_root_gives_its_permissions_up(work: Path) -> None:
-    out = work / "root.ch11"
-    running = begin(work, out, "--quiet")
-    wait_for("it records", out.exists)
-    judge_permissions("a capture of root", process_of(out, CAPTURE))
-    running.interrupt()
-    judge("it ends", running.ended()[0] == 0)
 
 
 def member_tools(work: Path) -> Path:
@@ -220,27 +194,5 @@ def test_the_clock_of_an_adapter_without_one_is_refused(work: Path) -> None:
     running = Running(work, CAPTURE, "--clock", "adapter", "rx0=-")
     judge(
         "--clock adapter of one without a clock is refused",
-        running.ended()[0] == 3 and running.told() == "capture: rx0: its adapter gives no times\n",
+        running.ended()[0] == 3 and running.told() == "bpfrec capture: rx0: its adapter gives no times\n",
     )
-
-
-def test_the_clock_of_an_adapter_that_runs_tai_is_told(work: Path) -> None:
-    reader = Reader(pipe_at(work, "adapter.pipe"))
-    adds = {"LD_PRELOAD": str(preloaded()), "ADAPTER_AHEAD": "37"}
-    running = Running(work, CAPTURE, "--quiet", "--clock", "adapter", f"rx0={reader.path}", adds=adds)
-    running.wait_until_told("origin")
-    begin_at = time.time_ns()
-    for number in range(20):
-        send("tx0", [numbered(number)])
-        time.sleep(0.02)
-    with contextlib.suppress(ProcessLookupError):
-        time.sleep(0.3)
-        running.interrupt()
-    status, told = running.ended()[0], running.told()
-    judge(
-        "an adapter's clock that runs TAI is told",
-        status == 0 and re.search(r"capture: rx0\b.*\bTAI\b.*\n", told) is not None,
-        told,
-    )
-    ahead = (records(reader.all())[0].counter * 100 + origin_told(told) - begin_at) / SECOND
-    judge(f"and its times are taken as they are, {ahead:.3f} s ahead", 36.9 < ahead < 37.5)

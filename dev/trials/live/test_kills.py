@@ -150,6 +150,8 @@ def judge_rest(blow: Blow, here: Path, out: Path, status: int, told: str, has_st
     if is_killed and blow.role in ("capture", "recorder", "audit"):
         judge_quietly(f"{blow}: status {status}: {told}", status != 0)
         judge_quietly(f"{blow}: it isn't said: {told}", re.search(r"bpfrec live: \S+.* was ended by signal 9\b", told))
+    if is_killed and blow.role == "live":
+        judge_quietly(f"{blow}: {answers}: {told}", are_whole)
     if not is_killed or blow.role == "guard":
         judge_quietly(f"{blow}: status {status}, {answers}: {told}", status in (0, 3, -15) and are_whole)
     if is_killed and blow.role == "guard" and status == 0:
@@ -188,9 +190,8 @@ def test_a_second_signal_ends_what_stands_still(work: Path, role: str) -> None:
     os.kill(first, signal.SIGTERM)
     status, told = running.ended()[0], running.told()
     judge("a second one ends all", time.monotonic() - begun < PATIENCE and not processes_of(out), told)
-    judge(
-        "it says what was ended", status != 0 and re.search(r"bpfrec live: \S+.* was ended by signal 9\b", told), told
-    )
+    holds = status != 0 and re.search(r"bpfrec live: \S+.* was ended by signal 9\b", told)
+    judge("it says what was ended", holds, told)
     judge("nothing is left", nothing_left(here))
     listed = outcome(BPFREC, "list", out)
     # Where the recorder had written nothing, OUT is removed.

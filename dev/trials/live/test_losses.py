@@ -44,7 +44,7 @@ def test_sixty_four_interfaces_share_a_quarter_of_the_memory(work: Path) -> None
         status == 0 and printed.count(" offered 1 kept 1 ") == PAIRS,
         running.told(),
     )
-    buffers = dict(re.findall(r"capture: (bx\d+) buffer (\d+) MiB\n", running.told()))
+    buffers = dict(re.findall(r"bpfrec capture: (bx\d+) buffer (\d+) MiB\n", running.told()))
     judge("each has a buffer, which is told", len(buffers) == PAIRS and all(int(it) > 0 for it in buffers.values()))
     total, memory = sum(map(int, buffers.values())), os.sysconf("SC_PHYS_PAGES") * os.sysconf("SC_PAGE_SIZE")
     judge(
@@ -128,19 +128,6 @@ def test_a_frame_that_is_shorter_than_a_head_is_told(work: Path, words: list, st
     judge_fed(told, 3, len(numbers(reader.all())))
     judge(
         f"the capture by itself ends with status {status} and tells its losses at last",
-        ended == status and told.endswith("\ncapture: rx0 LOST 0 dropped 1 skipped\n"),
+        ended == status and told.endswith("\nbpfrec capture: rx0 LOST 0 dropped 1 skipped\n"),
         told,
-    )
-
-
-def test_no_losses_are_told_where_nothing_was_lost(work: Path) -> None:
-    out = work / "kept.ch11"
-    running = begin(work, out, "--quiet", "--strict")
-    send_together(0, 100)
-    time.sleep(0.1)
-    running.interrupt()
-    judge(
-        "none are told where nothing was lost",
-        running.ended()[0] == 0 and "LOST" not in running.told() and facts_of(out)["losses"] == [],
-        running.told(),
     )

@@ -1,7 +1,5 @@
 """Tries the lines `mark TEXT` and `status` beside interfaces: what the facts and the answers have, also at rotations."""
 
-from __future__ import annotations
-
 import os
 import re
 import signal
@@ -28,11 +26,10 @@ from recordings import (
     write_settings,
 )
 from schemas import faults, schema_of
-from support import EXPORT, LIVE, TOOLS, Running, judge, judge_quietly, outcome, present, run, wait_for
+from support import EXPORT, FOLLOW, LIVE, Running, judge, judge_quietly, outcome, present, run, wait_for
 
 WANTED = ("bin/bpfrec", "bin/capture", "ip", "tcpdump")
 pytestmark = [pytest.mark.usefixtures("namespace")]
-FOLLOW = TOOLS / "follow"
 # Half a second, in ticks.
 NEAR = 5 * 10**6
 ANSWER = re.compile(r"^marked (\d+) (\S+Z)(?: in (.*))?$", re.MULTILINE)
@@ -67,9 +64,8 @@ def test_a_mark_has_the_counter_of_the_frames_that_come_then(work: Path) -> None
     first, second = records(extracted(work, out, 1))
     judge("it stands between the frames", first.counter < mark["counter"] < second.counter, (first, mark, second))
     moment = Facts(facts).moment_of(mark["counter"]) or 0
-    judge(
-        "its counter is of that moment", before - 2 * 10**6 <= moment <= after + 2 * 10**6, (before, moment, after)
-    )
+    holds = before - 2 * 10**6 <= moment <= after + 2 * 10**6
+    judge("its counter is of that moment", holds, (before, moment, after))
     judge("and so is its time", tick_of(before) <= mark["time"] <= tick_of(after), mark)
 
 
@@ -160,9 +156,8 @@ def test_lines_at_rotations_are_done_once(work: Path) -> None:
     run(EXPORT, *recordings(work, "turn"), work / "all.pcapng")
     lines = lines_at_frames((work / "all.pcapng").read_bytes())
     shown = [line.split()[-1] for line in lines if line.startswith("mark ")]
-    judge(
-        "a capture of all has each on one frame, in order", shown == [it for it, _ in found], (len(shown), len(found))
-    )
+    holds = shown == [it for it, _ in found]
+    judge("a capture of all has each on one frame, in order", holds, (len(shown), len(found)))
 
 
 @pytest.mark.timed

@@ -10,7 +10,7 @@ from clock import Clock
 from frames import Record, numbers, records
 from namespace import send_numbered
 from recordings import begin, extracted, facts_of
-from support import CAPTURE, LIVE, MILLISECOND, SECOND, Running, judge, judge_quietly, nanoseconds, wait_for
+from support import CAPTURE, MILLISECOND, SECOND, Running, judge, judge_quietly, nanoseconds, wait_for
 
 WANTED = ("bin/bpfrec", "bin/capture", "ip", "cc")
 pytestmark = [pytest.mark.timed, pytest.mark.usefixtures("namespace")]
@@ -70,25 +70,13 @@ def test_times_by_the_facts_are_right_for_an_origin_of_long_ago(work: Path, word
     noted = nanoseconds(*facts["origins"][0]["origin"].split("."))
     turns = (time.time_ns() - origin) // TURN
     judge("the origin has as many turns added as there were", noted == origin + turns * TURN, facts["origins"])
-    judge("it is printed too", f"capture: origin {facts['origins'][0]['origin']}\n" in running.told(), running.told())
+    judge(
+        "it is printed too",
+        f"bpfrec capture: origin {facts['origins'][0]['origin']}\n" in running.told(),
+        running.told(),
+    )
     off = abs((origin + found[0].counter * 100 - sent[0][0] + TURN // 2) % TURN - TURN // 2)
     judge("counters are what they would be without", off < 2 * MILLISECOND, off)
-
-
-def test_an_origin_that_lies_ahead_is_refused(work: Path) -> None:
-    for words in ([CAPTURE, "--origin", "2096-01-01T00:00:00.5Z", "rx0=-"],):
-        before = time.time_ns()
-        running = Running(work, *words)
-        status, told = running.ended()[0], running.told()
-        line = "capture: --origin 2096-01-01T00:00:00.5Z: 3976214400.500000000 lies ahead of now, which is "
-        now = nanoseconds(*told[len(line) :].strip().split("."))
-        judge(
-            "it is refused by its value and now", status == 2 and told.startswith(line) and told.count("\n") == 1, told
-        )
-        judge("now is now", before - 1_000 <= now <= time.time_ns())
-    out = work / "ahead.ch11"
-    running = Running(work, LIVE, "--origin", time.time_ns() // SECOND + 100, out, "rx0")
-    judge("by live too", running.ended()[0] == 2 and not out.exists(), running.told())
 
 
 class Turning:
@@ -135,14 +123,3 @@ def test_times_are_right_once_counters_have_begun_at_0_again(work: Path) -> None
         time.sleep(0.15)
         turning.send()
     turning.judge(40)
-
-
-def test_times_are_right_where_the_clock_is_set_just_before_counters_begin_at_0_again(work: Path) -> None:
-    turning = Turning(work, 2)
-    turning.send()
-    turning.clock.set_at(turning.turn - 50 * MILLISECOND, 5 * SECOND)
-    turning.send(5)
-    while time.time_ns() < turning.turn + 300 * MILLISECOND:
-        turning.send(1)
-        time.sleep(0.005)
-    turning.judge(20)

@@ -1,11 +1,9 @@
-"""Tries bpfrec live with a standard error that stands still, with an OUT that is there, and with SIGKILL."""
+"""Tries bpfrec live with a standard error that stands still, and with an OUT that is there."""
 
-import concurrent.futures
 import contextlib
 import fcntl
 import os
 import pty
-import random
 import re
 import signal
 import time
@@ -14,22 +12,8 @@ from pathlib import Path
 import pytest
 from frames import numbers
 from namespace import send_together
-from recordings import (
-    RUN,
-    YES,
-    Traffic,
-    begin,
-    extracted,
-    facts_of,
-    folder_of,
-    has_facts,
-    is_approved,
-    nothing_left,
-    processes_of,
-    recordings,
-    settings_of,
-)
-from support import LIVE, Running, fill_pipe, judge, judge_quietly, present, wait_for
+from recordings import YES, begin, extracted, facts_of, nothing_left, settings_of
+from support import LIVE, Running, fill_pipe, judge, judge_quietly, wait_for
 
 WANTED = ("bin/bpfrec", "bin/capture", "ip", "cc")
 pytestmark = [pytest.mark.timed, pytest.mark.usefixtures("namespace")]
@@ -103,7 +87,7 @@ def test_a_stopped_terminal_that_shows_lines_goes_on(work: Path) -> None:
     send_together(0, MANY)
     time.sleep(2.2)
     terminal.press(CTRL_Q)
-    terminal.wait_until_shown(rb"capture: [1-9]\d* lines were left out: standard error had no room\r?\n")
+    terminal.wait_until_shown(rb"bpfrec capture: [1-9]\d* lines were left out: standard error had no room\r?\n")
     terminal.press(CTRL_S)
     terminal.end()
     judge_all_recorded("a stopped terminal", work, terminal.running, out)
@@ -146,7 +130,6 @@ def test_an_out_that_exists_is_refused(work: Path, name: str) -> None:
 
 @pytest.mark.parametrize("name", ["there.ch11", "there.ch11.json"])
 def test_a_name_that_is_there_is_never_opened(work: Path, seen_calls: Path, name: str) -> None:
-    """A name that is there is never opened."""
     (work / name).write_bytes(b"kept")
     (work / "calls").write_text("")
     adds = {"LD_PRELOAD": str(seen_calls), "CALLS": str(work / "calls")}
@@ -163,7 +146,9 @@ def test_a_file_that_takes_the_name_of_out_is_kept(work: Path, seen_calls: Path)
     adds = {"LD_PRELOAD": str(seen_calls), "EXCHANGED": str(out), "EXCHANGED_BY": str(work / "another")}
     running = Running(work, LIVE, "--quiet", settings_of(work), out, "rx0=1", "rx1=2", adds=adds)
     status = running.ended()[0]
-    judge("it is refused", status == 3 and running.told().endswith(f"file {out}\n"), running.told())
+    judge(
+        "it is refused", status == 3 and running.told().endswith(f"bpfrec live: {out}: File exists\n"), running.told()
+    )
     judge("and kept", out.read_bytes() == b"kept" and nothing_left(work))
 
 
@@ -183,46 +168,3 @@ def test_force_records_over_a_recording(work: Path) -> None:
         and numbers(extracted(work, out, 1)) == list(range(10))
         and facts_of(out)["state"] == "ended",
     )
-
-
-# ---- SIGKILL
-
-
-def judge_kill(work: Path, turn: int, moment: float) -> None:
-    is_rotating = turn % 2 == 1
-    here = folder_of(work, f"kill{turn}")
-    out, settings = here / "out.ch11", settings_of(here)
-    words = ["--quiet", *(["--every", 1] if is_rotating else []), settings, out, "rx0=1", "rx1=2"]
-    running = Running(here, LIVE, *words, adds={RUN: str(out)})
-
-    def there() -> list[Path]:
-        return recordings(here, "out") if is_rotating else [it for it in [out] if it.exists()]
-
-    time.sleep(moment)
-    before = there()
-    running.process.kill()
-    running.process.wait()
-    what = f"SIGKILL after {moment:.2f} s{' with --every' if is_rotating else ''}"
-    wait_for(lambda: f"{what}: nothing of it runs 5 s later: {processes_of(out)}", lambda: not processes_of(out), 5)
-    judge_quietly(f"{what}: a recording that had begun is there: {before} {there()}", set(there()) >= set(before))
-    judge_quietly(f"{what}: OUT is approved: {running.told()}", all(is_approved(it) for it in there()))
-    judge_quietly(f"{what}: TMPDIR is empty: {os.listdir(here / 'private')}", nothing_left(here))
-    told = re.search(r"origin (\d+\.\d{9})\n", running.told())
-    for path in [it for it in there() if it.stat().st_size > 0]:
-        judge_quietly(
-            f"{what}: {path.name}.json has the origin",
-            has_facts(path) and facts_of(path)["origins"][0]["origin"] == present(told)[1],
-        )
-    judge(f"{what}: {len(there())} recordings, whole and approved, and nothing is left", True)
-    present(running.process.stdin).close()
-
-
-def test_no_drawn_sigkill_leaves_a_process_or_an_unread_recording(work: Path) -> None:
-    """SIGKILL of bpfrec live at drawn moments: some of its beginning, and some while it records."""
-    drawn = random.Random(61)
-    moments = [drawn.uniform(0.05, 0.4) if turn % 6 < 2 else drawn.uniform(0.4, 2.4) for turn in range(12)]
-    traffic = Traffic()
-    with concurrent.futures.ThreadPoolExecutor(4) as pool:
-        for done in [pool.submit(judge_kill, work, turn, moment) for turn, moment in enumerate(moments)]:
-            done.result()
-    traffic.end()

@@ -9,20 +9,8 @@ import pytest
 from clock import Clock
 from frames import numbers, numbers_in, records
 from namespace import send_together
-from recordings import (
-    YES,
-    Traffic,
-    begin,
-    extracted,
-    facts_of,
-    is_approved,
-    judge_parts,
-    nothing_left,
-    parts_of,
-    recordings,
-    settings_of,
-)
-from support import BPFREC, LIVE, SECOND, Running, judge, judge_quietly, present, run, wait_for
+from recordings import YES, Traffic, begin, extracted, facts_of, is_approved, judge_parts, parts_of, recordings
+from support import BPFREC, SECOND, Running, judge, present, run, wait_for
 
 WANTED = ("bin/bpfrec", "bin/capture", "ip", "cc", "pcap-config")
 pytestmark = [pytest.mark.timed, pytest.mark.usefixtures("namespace")]
@@ -45,31 +33,11 @@ def test_names_of_recordings_stay_in_order_under_a_clock_that_is_set(work: Path)
     time.sleep(0.1)
     running.interrupt()
     status, printed = running.ended()
-    judge(
-        "--every goes by a clock that can't be set",
-        status == 0 and printed.count(YES) == len(recordings(work, "hour")) and 3 <= many <= 5,
-        printed,
-    )
+    holds = status == 0 and printed.count(YES) == len(recordings(work, "hour")) and 3 <= many <= 5
+    judge("--every goes by a clock that can't be set", holds, printed)
     judge_parts(
         "and each frame is in one recording, with counters that go on", parts_of(work, "hour", 1), list(range(sent))
     )
-
-
-def test_every_and_sync_have_their_ranges(work: Path) -> None:
-    """The ranges of --every and --sync."""
-    settings = settings_of(work)
-    every, sync = r"bpfrec live: --every needs a number from 1 to 999999999, .*\n", r"bpfrec live: --sync needs .*\n"
-    cases = [("--every", value, every) for value in ("1234567890", "0", "1.5", "-1")]
-    cases += [("--sync", value, sync) for value in ("1234567890", "-1", "x")]
-    for word, value, line in cases:
-        running = Running(work, LIVE, word, value, settings, work / "no.ch11", "rx0=1", "rx1=2")
-        status = running.ended()[0]
-        judge(
-            f"refused: {word} {value}",
-            status == 2 and re.fullmatch(line, running.told()) and nothing_left(work),
-            running.told(),
-        )
-    judge_quietly("nothing is created", list(work.glob("no*.ch11*")) == [])
 
 
 def test_a_changed_filter_is_told_with_its_recording(work: Path) -> None:
@@ -130,10 +98,8 @@ def test_a_recording_that_is_moved_away_is_told(work: Path) -> None:
     kept = [records(extracted(work, it, 1)) for it in [other / first.name, *recordings(work, "moved")]]
     found = numbers_in(kept)
     gap = [it for it in range(sent) if it not in set(found)]
-    judge(
-        "no frame is lost but those of the one that was removed",
-        found == sorted(set(found)) and gap == list(range(gap[0], gap[-1] + 1)),
-    )
+    holds = found == sorted(set(found)) and gap == list(range(gap[0], gap[-1] + 1))
+    judge("no frame is lost but those of the one that was removed", holds)
 
 
 @pytest.mark.parametrize("name", ["moved to", "removed"], ids=["moved", "removed"])
@@ -148,14 +114,13 @@ def test_a_single_recording_that_is_moved_away_is_told(work: Path, name: str) ->
     time.sleep(0.2)
     running.interrupt()
     status, printed = running.ended()
-    judge(
-        f"a recording that was {name.split()[0]} is told and audited",
+    holds = (
         status == 0
         and YES in printed
         and "offered 100 kept 100" in printed
-        and f"bpfrec live: {out} was {name}" in running.told(),
-        running.told(),
+        and f"bpfrec live: {out} was {name}" in running.told()
     )
+    judge(f"a recording that was {name.split()[0]} is told and audited", holds, running.told())
     if name == "moved to":
         judge("what was moved has all", numbers(extracted(work, elsewhere, 1)) == list(range(100)))
 

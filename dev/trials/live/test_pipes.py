@@ -39,7 +39,7 @@ def test_a_pipe_that_nobody_reads_is_said_and_a_signal_ends_all(work: Path, endi
     """Of a pipe that nobody reads nothing is recorded: it is said, and a signal ends all."""
     out = pipe_at(work, "out.pipe")
     running = Running(work, LIVE, "--quiet", settings_of(work), out, "rx0=1", "rx1=2", adds={RUN: str(out)})
-    running.wait_until_told("capture: origin")
+    running.wait_until_told("bpfrec capture: origin")
     send_together(0, COUNT)
     begun = time.monotonic()
     os.kill(running.process.pid, ending)

@@ -98,7 +98,7 @@ def test_what_was_synced_is_there_after_each_power_cut(work: Path) -> None:
         out = disk / "cut.ch11"
         words = [sys.executable, "-c", OBSERVED, work / "notes", "--quiet", settings, out, "rx0=1", "rx1=2"]
         running = Running(work, *words, adds={RUN: str(out)})
-        running.wait_until_told("capture: origin")
+        running.wait_until_told("bpfrec capture: origin")
         growth, traffic = Growth(out), Traffic(1_000, 0.01)
         behind = []
         for number in range(CUTS):

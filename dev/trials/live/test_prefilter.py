@@ -169,7 +169,7 @@ def test_the_kernel_drops_what_a_prefilter_refuses(kept: Kept) -> None:
 
 def test_a_program_too_long_for_the_kernel_runs_in_the_recorder_alone(kept: Kept) -> None:
     """A program that has no room in the kernel runs in the recorder alone, and that is said."""
-    said = re.findall(rf"capture: fx(\d+): (\S+): {TOO_LONG}\n", kept.told)
+    said = re.findall(rf"bpfrec capture: fx(\d+): (\S+): {TOO_LONG}\n", kept.told)
     judge(
         "what is too long for the kernel is said",
         sorted(NAMES[int(at)] for at, _ in said) == sorted(SAID_TOO_LONG),

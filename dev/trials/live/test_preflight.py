@@ -60,9 +60,9 @@ def cases(work: Path) -> list[tuple[list, str]]:
         ([settings, work / "out.ch11", "rx0=1", "nowhere0=2"], "nowhere0: no such interface"),
         (
             [settings, work / "out.ch11", "rx0=3"],
-            f"live: {settings} has no table [[channel]] with a line id = 3",
+            f"bpfrec live: {settings} has no table [[channel]] with a line id = 3",
         ),
-        ([settings, "rx0=1"], f"live: OUT is missing: it stands between {settings} and rx0=1"),
+        ([settings, "rx0=1"], f"bpfrec live: OUT is missing: it stands between {settings} and rx0=1"),
         (
             [settings, work / "there.ch11", "rx0=1", "rx1=2"],
             f"{work}/there.ch11: {work}/there.ch11 is there: give it another",
@@ -90,7 +90,7 @@ def test_an_origin_is_noted_as_capture_notes_it(work: Path) -> None:
         running.ended()
         noted = facts_of(work / f"{word}.ch11")["origins"][0]["origin"]
         _, faults, notes = told("--origin", word, settings_of(work), work / "out.ch11", "rx0=1", "rx1=2")
-        line = f"capture: note: --origin {word}: the origin {noted} is noted"
+        line = f"bpfrec capture: note: --origin {word}: the origin {noted} is noted"
         judge(f"what is noted of --origin {word}", faults == [] and any(it.startswith(line) for it in notes), notes)
 
 
@@ -135,5 +135,5 @@ def test_a_lacking_permission_is_a_fault(work: Path) -> None:
         text=True,
         env={**os.environ, "TMPDIR": str(work)},
     )
-    line = "capture: no permission to capture: be root, or have a group capture, as using/record.md says: chgrp recorder F && "
+    line = "bpfrec capture: no permission to capture: be root, or have a group capture, as using/record.md says: chgrp recorder F && "
     judge("no permission", done.returncode == 1 and line in done.stdout, done.stdout + done.stderr)

@@ -4,11 +4,11 @@ import time
 from pathlib import Path
 
 import pytest
-from accounts import judge_fed, judge_recorded
+from accounts import judge_recorded
 from disks import memory_disk
 from namespace import long_frames, send_numbered, send_together
 from recordings import YES, begin, facts_of, nothing_left, process_of, settings_of
-from support import BPFREC, CAPTURE, Reader, Running, judge, pipe_at, wait_for
+from support import BPFREC, judge, wait_for
 
 WANTED = ("bin/bpfrec", "bin/capture", "ip", "mount")
 pytestmark = [pytest.mark.timed, pytest.mark.usefixtures("namespace")]
@@ -49,19 +49,3 @@ def test_report_audit_and_losses_survive_a_full_tmpdir(work: Path) -> None:
     facts = facts_of(out)
     judge("the facts have them", facts["report"] and facts["audit"], facts)
     judge("and nothing is left", left)
-
-
-def test_events_that_cannot_be_written_are_told(work: Path) -> None:
-    """Events that can't be written are told on standard error."""
-    reader = Reader(pipe_at(work, "one.pipe"))
-    with long_frames("tx0", "rx0"):
-        running = Running(work, CAPTURE, "--events", "/dev/full", f"rx0={reader.path}")
-        running.wait_until_told("events can't be written")
-        send_numbered("tx0", 0, 7, 17_000)
-        time.sleep(0.3)
-        running.interrupt()
-        status, told = running.ended()[0], running.told()
-    judge("it ends", status == 0, (status, told))
-    judge("that they fail", told.count("capture: events can't be written") == 1, told)
-    judge_fed(told, 7, len(reader.all()))
-    judge("and what is lost", "capture: rx0 LOST 0 dropped 7 skipped\n" in told, told)

@@ -1,22 +1,16 @@
 """Tries bpfrec publish and live --publish: by a receiver of its own beside bpfrec receive, and where nobody listens or no
 route leads."""
 
-from __future__ import annotations
-
 import contextlib
 import os
 import random
-import signal
 import socket
-import subprocess
-import time
 from collections.abc import Iterator
 from pathlib import Path
 
 import pytest
 from frames import FRAMES, numbers_in, records
 from ground import (
-    PUBLISH,
     Receiver,
     Station,
     answers,
@@ -29,20 +23,9 @@ from ground import (
     write_facts,
 )
 from reading import SAMPLES
-from recordings import (
-    Traffic,
-    begin,
-    extracted,
-    facts_of,
-    is_approved,
-    nothing_left,
-    processes_of,
-    recordings,
-    settings_of_one,
-)
-from support import LIVE, PREFLIGHT, ROOT, judge, judge_quietly, outcome, run, wait_for
-from whole_file import SETUP, TIME, Origin, Setup
-from whole_file_clock import SECOND
+from recordings import Traffic, begin, extracted, facts_of, is_approved, nothing_left, recordings, settings_of_one
+from support import LIVE, PREFLIGHT, PUBLISH, ROOT, judge, judge_quietly, outcome, run, wait_for
+from whole_file import Origin, Setup
 from whole_file_parts import ORIGIN, SAMPLE_SETUP, parts_of, recorded, sample_recording
 
 WANTED = ("bin/bpfrec", "bin/capture", "ip")
@@ -226,88 +209,6 @@ def test_in_a_silence_datagrams_go_on(work: Path) -> None:
     judge_quietly("numbers", packets_in(station.close()))
 
 
-def test_a_stream_that_dies_is_said(work: Path) -> None:
-    """The recording goes on, and what comes later is published again."""
-    out, station = work / "flight.ch11", Station()
-    running = begin(work, out, "--quiet", "--publish", station.address)
-    traffic = Traffic()
-    wait_for("it is sent", lambda: len(station.datagrams) > 3)
-    (pid,) = [it for it, words in processes_of(out).items() if "--stream" in words]
-    os.kill(pid, signal.SIGKILL)
-    line = f"bpfrec live: publish {station.address}: {out}: its stream ended by signal 9\n"
-    wait_for("a line", lambda: line in running.told())
-    before = len(station.datagrams)
-    wait_for("it is sent again", lambda: len(station.datagrams) > before + 3, 60)
-    running.interrupt()
-    sent = traffic.end()
-    judge("it ends well", running.ended()[0] == 0 and is_approved(out), running.told())
-    judge("with all frames", [it["frames"] for it in facts_of(out)["counts"]] == [sent, sent], sent)
-
-
-def test_a_clock_that_is_set_begins_another_stream(work: Path) -> None:
-    """Whose times are those of the later origin, and which is a file of its own on the ground."""
-    path, port = work / "flight.ch11", free_port()
-    made = recorded(random.Random(3), [1, 2], 0, 3)
-    origins = (Origin(0, ORIGIN), Origin(29_000_000, ORIGIN + 3_600 * SECOND))
-    path.write_bytes(bytes(made.data))
-    write_facts(path, Setup(origins[:1], channels={}), "recording")
-    receiver, station = Receiver(work, "ground.ch10", f"127.0.0.1:{port}"), Station()
-    addresses = (f"127.0.0.1:{port}", station.address)
-    publishers = [subprocess.Popen([PUBLISH, path, it], stderr=subprocess.PIPE, text=True) for it in addresses]
-    sent = len(stream_of(path).file.data)
-    wait_for("it is sent", lambda: len(packets_in(station.datagrams)) == sent == receiver.out.stat().st_size)
-    write_facts(path, Setup(origins, channels={}), "recording")
-    made.add_frames(1, [(30_000_000, 0, 60)])
-    with open(path, "ab") as file:
-        file.write(made.data[path.stat().st_size :])
-    wait_for("more is sent", lambda: len(packets_in(station.datagrams)) > sent)
-    wait_for("and is in a file of its own", (work / "ground_00002.ch10").exists)
-    for publisher in publishers:
-        publisher.terminate()
-        judge_quietly("it ends well", publisher.wait(30) == 0)
-    later = parts_of(packets_in(station.close())[sent:])
-    setups = [it for it in later if it.kind == SETUP]
-    judge("a setup record, from 0 on", len(setups) == 1 and later[0] == setups[0]._replace(sequence=0), later[0])
-    judge("with its place", b"G\\COM:flight.ch11;\r\nG\\COM:from byte " in setups[0].data, setups[0].data)
-    (last,) = [it for it in later if it.kind == FRAMES]
-    times = [it.data for it in later if it.kind == TIME]
-    judge("a time of the new origin", last.counter == 30_000_000 and times[-1][6:8] == b"\x00\x13", times[-1].hex())
-    judge_quietly("it is received", receiver.ended()[0] == 0)
-
-
-def test_one_that_has_ended_goes_out_at_the_pace_of_its_counters(work: Path) -> None:
-    path = drawn_flight(work, 5, seconds=7)
-    station = Station()
-    begun = time.monotonic()
-    done = outcome(PUBLISH, path, station.address)
-    took = time.monotonic() - begun
-    judge("it ends well", done.returncode == 0 and station.close(), done.stderr)
-    judge(f"in about 7 s: {took:.1f}", took > 5)
-
-
-def test_what_is_there_is_left_out_with_now(work: Path) -> None:
-    """But the filters that are in force."""
-    out, station = work / "flight.ch11", Station()
-    running = begin(work, out, "--quiet")
-    traffic = Traffic(pause=0.01)
-    wait_for("packets are written", lambda: out.exists() and out.stat().st_size > 20_000)
-    publisher = subprocess.Popen([PUBLISH, "--now", out, station.address], stderr=subprocess.PIPE, text=True)
-    wait_for("later ones are sent", lambda: len(station.datagrams) > 20)
-    running.interrupt()
-    traffic.end()
-    judge_quietly("the recording ends well", running.ended()[0] == 0, running.told())
-    _, told = publisher.communicate(timeout=60)
-    judge("it ends with it", publisher.returncode == 0, told)
-    data = packets_in(station.close())
-    (work / "now.ch11").write_bytes(data)
-    wanted, found = records(extracted(work, out, 1)), records(extracted(work, work / "now.ch11", 1))
-    judge("the last frames", 0 < len(found) < len(wanted) and found == wanted[-len(found) :], (len(found), len(wanted)))
-    judge("none is late", published(told).late == 0, told)
-    kinds = [(it.kind, it.data[8:9]) for it in parts_of(data)]
-    judge("a filter of each channel ahead of frames", [it[0] for it in kinds].index(FRAMES) > kinds.index((0, b"\1")))
-    judge_quietly("of both", kinds.count((0, b"\1")) >= 2, kinds[:9])
-
-
 def test_what_cannot_be_published_is_refused(work: Path) -> None:
     path = work / "flight.ch11"
     path.write_bytes(sample_recording())
@@ -319,7 +220,7 @@ def test_what_cannot_be_published_is_refused(work: Path) -> None:
         ),
         ([work / "none.ch11", "127.0.0.1:5"], 1, "there is no such recording"),
         ([work, "127.0.0.1:5"], 1, "it is no regular file, which could be followed"),
-        ([path, "ground:5"], 2, "ground:5: needs ADDRESS:PORT"),
+        ([path, "ground:5"], 2, "ground:5: no name is looked up, so it needs ADDRESS:PORT"),
         (["--interface", "lo", path, "127.0.0.1:5"], 2, "--interface is for a multicast group"),
         (["--datagram", "60", path, "127.0.0.1:5"], 2, "60 is no multiple of 4 from 64 to 65507"),
         (["--datagram", "66", path, "127.0.0.1:5"], 2, "66 is no multiple of 4 from 64 to 65507"),
@@ -339,7 +240,7 @@ def test_what_cannot_be_published_is_refused(work: Path) -> None:
 def test_live_refuses_what_it_cannot_publish(work: Path) -> None:
     settings = settings_of_one(work)
     for word, what in [
-        ("ground:5", "--publish ground:5: needs ADDRESS:PORT"),
+        ("ground:5", "--publish ground:5: no name is looked up, so it needs ADDRESS:PORT"),
         ("127.0.0.1:5,interface=lo", "interface= is for a multicast group"),
         ("239.1.2.3:5,ttl=x", "--publish x is no number"),
         ("239.1.2.3:5,speed=5", "speed=5: needs ttl=N, interface=NAME or datagram=BYTES, each once"),

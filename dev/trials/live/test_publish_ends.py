@@ -1,7 +1,5 @@
 """Tries publishers that are ended, killed or begun late, and what they leave out."""
 
-from __future__ import annotations
-
 import os
 import random
 import re
@@ -13,7 +11,7 @@ from pathlib import Path
 
 import pytest
 from frames import FRAMES, numbers_in, records
-from ground import PUBLISH, Station, answers, drawn_flight, free_port, packets_in, published
+from ground import Station, answers, drawn_flight, free_port, packets_in, published
 from recordings import (
     RUN,
     Traffic,
@@ -27,13 +25,12 @@ from recordings import (
     settings_of,
 )
 from served import address_in, asked, status_of
-from support import LIVE, TOOLS, Running, judge, judge_quietly, present, wait_for
+from support import LIVE, PUBLISH, TELL, Running, judge, judge_quietly, present, wait_for
 from whole_file import SETUP, TIME
 from whole_file_parts import parts_of
 
 WANTED = ("bin/bpfrec", "bin/capture", "ip")
 pytestmark = [pytest.mark.usefixtures("namespace")]
-CONTROL = TOOLS / "tell"
 
 
 def has_more(station: Station, count: int) -> bool:
@@ -51,7 +48,7 @@ def test_a_publisher_that_is_killed_comes_back(work: Path) -> None:
     traffic = Traffic()
     killed: set[int] = set()
     for number in range(2):
-        client = subprocess.Popen([CONTROL, work / "control", "mark", f"m{number}"], stderr=subprocess.DEVNULL)
+        client = subprocess.Popen([TELL, work / "control", "mark", f"m{number}"], stderr=subprocess.DEVNULL)
         time.sleep(draw.random() / 4)
         client.kill()
         client.wait()
@@ -112,7 +109,7 @@ def test_a_run_that_ends_at_once_is_published(work: Path) -> None:
     wait_for("it starts", lambda: publishers_of(out))
     (pid,) = publishers_of(out)
     os.kill(pid, signal.SIGSTOP)
-    running.wait_until_told("capture: origin")
+    running.wait_until_told("bpfrec capture: origin")
     running.interrupt()
     wait_for("it is to end", lambda: has_term(pid))
     os.kill(pid, signal.SIGCONT)

@@ -1,7 +1,5 @@
 """Tries bpfrec receive on what a network does to datagrams, and what it refuses."""
 
-from __future__ import annotations
-
 import random
 import shutil
 import signal
@@ -15,8 +13,8 @@ import pytest
 from bpfrec.formats.transfer import whole_head
 from bpfrec_tools.receive.source import SILENCE
 from frames import packet_of
-from ground import RECEIVE, Receiver, Relay, Station, drawn_flight, free_port, is_taken, send, stream_of
-from support import BPFREC, judge, judge_quietly, outcome, wait_for
+from ground import Receiver, Relay, Station, drawn_flight, free_port, is_taken, send, stream_of
+from support import BPFREC, RECEIVE, judge, judge_quietly, outcome, wait_for
 from whole_file import SETUP
 from whole_file_parts import parts_of
 
@@ -136,22 +134,6 @@ def datagrams_of(path: Path, *options: object) -> list[bytes]:
     station = Station()
     send(path, station.address, *options)
     return station.close()
-
-
-def test_a_setup_record_that_was_lost_is_waited_for(work: Path) -> None:
-    """What came ahead of the next one stands behind it."""
-    path, port = drawn_flight(work, 2), free_port()
-    datagrams = datagrams_of(path, "--datagram", 64)
-    setup = [it for it in datagrams if it[:1] == b"\x11" and it[4:8] == bytes(4)]
-    setup = setup[: next((at for at, it in enumerate(setup[1:], 1) if it[8:12] == bytes(4)), len(setup))]
-    receiver = Receiver(work, "ground.ch10", f"127.0.0.1:{port}")
-    Sender(port).send([it for it in datagrams if it not in setup])
-    status, received = receiver.ended()
-    judge("the rest is there", (status, received.skipped) == (1, 0), received)
-    sent, got = parts_of(bytes(stream_of(path).file.data)), parts_of(receiver.out.read_bytes())
-    next_one = [it for it in sent if it.kind == SETUP][1]
-    wanted = [next_one, *(it for it in sent[1:] if it is not next_one)]
-    judge("all packets", got == wanted, (len(got), len(wanted)))
 
 
 def test_datagrams_of_another_sender_are_left_out_and_counted(work: Path) -> None:

@@ -1,18 +1,16 @@
 """Tries what bpfrec receive shows of what comes: a capture with the names of the setup record and the times of the time
 packets, as tshark reads it."""
 
-from __future__ import annotations
-
 import signal
 import subprocess
 from pathlib import Path
 
 import pytest
 from frames import FRAMES
-from ground import RECEIVE, drawn_flight, free_port, is_taken, send, stream_of
+from ground import drawn_flight, free_port, is_taken, send, stream_of
 from packets import frames_in
 from rows import printed
-from support import judge, judge_quietly, outcome, wait_for
+from support import RECEIVE, judge, judge_quietly, outcome, wait_for
 from whole_file_parts import ORIGIN, parts_of
 
 WANTED = ("bin/bpfrec", "ip", "tshark")
@@ -86,4 +84,3 @@ def test_what_cannot_be_shown_is_refused(work: Path) -> None:
     ]:
         done = outcome(RECEIVE, *words)
         judge_quietly(what, (done.returncode, what in done.stderr) == (2, True), done)
-    judge("each", True)

@@ -25,7 +25,6 @@ from support import (
     judge,
     judge_quietly,
     origin_told,
-    outcome,
     pipe_at,
     present,
 )
@@ -173,17 +172,17 @@ def test_what_the_kernel_drops_is_not_offered(work: Path) -> None:
 
 def refusals(work: Path, settings: Path, out: Path) -> list[tuple]:
     return [
-        (["--quiet", settings, out, "nowhere0=1"], 3, "capture: nowhere0: no such interface"),
+        (["--quiet", settings, out, "nowhere0=1"], 3, "bpfrec capture: nowhere0: no such interface"),
         ([settings, out, "rx0=2"], 2, f"bpfrec live: {settings} has no table [[channel]] with a line id = 2"),
         ([settings, out, "rx0=1", "rx1=1"], 2, "bpfrec live: channel 1 has two interfaces"),
         ([settings, out, "rx0"], 2, "bpfrec live: rx0: with SETTINGS name its channel, as rx0=1"),
         (
             ["--origin", "yesterday", settings, out, "rx0=1"],
             2,
-            "capture: --origin yesterday: now, zero, or a time as 1764590400.25 or 2025-12-01T12:00:00.25Z; "
+            "bpfrec capture: --origin yesterday: now, zero, or a time as 1764590400.25 or 2025-12-01T12:00:00.25Z; "
             "with -r first too",
         ),
-        ([settings, settings, "rx0=1"], 3, f"file {settings}"),
+        ([settings, settings, "rx0=1"], 3, f"bpfrec live: {settings}: it is SETTINGS itself"),
         ([work / "missing.toml", out, "rx0=1"], 3, f"bpfrec live: {work / 'missing.toml'}: no such file"),
         ([settings], 2, "bpfrec live: it takes SETTINGS and OUT: bpfrec live --help has its arguments"),
     ]
@@ -198,32 +197,6 @@ def test_what_cannot_be_begun_is_said_in_one_line(work: Path) -> None:
         judge(f"refused: {told}", running.ended()[0] == status and running.told() == told + "\n")
         judge_quietly("nothing is created or left", not out.exists() and nothing_left(work))
     judge("and the settings are kept", settings.read_text() == before)
-
-
-ORIGINS = "now, zero, or a time as 1764590400.25 or 2025-12-01T12:00:00.25Z; with -r first too"
-VALUES = [
-    ("--buffer", "0", "1 to 2047 MiB"),
-    ("--buffer", "4096", "1 to 2047 MiB"),
-    ("--buffer", "8M", "1 to 2047 MiB"),
-    ("--origin", "yesterday", ORIGINS),
-    ("--origin", "2025-02-30T00:00:00Z", ORIGINS),
-    ("--origin", "first", "it needs -r, since the first frames of interfaces aren't known"),
-    ("--direction", "inn", "both, in or out"),
-    ("--clock", "ptp", "host or adapter"),
-    ("--check-sequence", "yes", "given, missing or adapter"),
-    ("--interface", "65536", "0 to 65535"),
-    ("--hold", "61", "0 to 60 seconds"),
-    ("--parent", "0", "the number of a process"),
-    ("--prefilter", "rx0", "INTERFACE=LISTING"),
-    ("--span", "rx0=0", "INTERFACE=TICKS, of 100 ns, 1 to 281474976710655"),
-]
-
-
-@pytest.mark.parametrize("option, value, takes", VALUES)
-def test_a_value_that_is_refused_says_what_its_option_takes(work: Path, option: str, value: str, takes: str) -> None:
-    done = outcome(CAPTURE, option, value, "rx0=-")
-    line = f"capture: {option} {value}: {takes}\n"
-    judge("option, value and what it takes", (done.returncode, done.stderr) == (2, line), done.stderr)
 
 
 @pytest.mark.parametrize(
@@ -246,16 +219,6 @@ def test_a_refused_filter_is_said_once(work: Path, name: str, listing: str) -> N
     )
 
 
-def test_a_fault_of_the_recorder_ends_the_run(work: Path) -> None:
-    wrong = write_settings(work, f'id = 1\nfilter = "{work}/all"\nmore = 1')
-    running = Running(work, LIVE, "--quiet", wrong, work / "refused.ch11", "rx0=1")
-    status, told = running.ended()[0], running.told()
-    judge(
-        "a fault of the recorder ends it",
-        status == 2 and "settings 2 Unknown more\n" in told and nothing_left(work),
-    )
-
-
 def test_a_lacking_permission_is_said_in_one_line(work: Path) -> None:
     settings, open_to_all = settings_of_one(work), work / "open"
     shutil.copytree(ROOT / "host", open_to_all / "host", ignore=shutil.ignore_patterns("__pycache__"))
@@ -266,7 +229,7 @@ def test_a_lacking_permission_is_said_in_one_line(work: Path) -> None:
         path.chmod(path.stat().st_mode | 0o555)
     (work / "private").chmod(0o777)
     line = (
-        r"capture: rx0: no permission to capture: be root, or have a group capture, as using/record.md says: "
+        r"bpfrec capture: rx0: no permission to capture: be root, or have a group capture, as using/record.md says: "
         r"chgrp recorder F && chmod 750 F && setcap cap_net_raw=ep F, where F is \S+/capture\n"
     )
     calls: list[tuple[Path, list[object]]] = [

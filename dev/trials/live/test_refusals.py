@@ -35,7 +35,7 @@ def judge_refused(work: Path, words: list, status: int, told: str, **more: Any) 
 def test_options_are_taken_anywhere_among_the_arguments(work: Path, at: int) -> None:
     words = [work / "out.ch11", "rx0", "rx1=4"]
     running = Running(work, LIVE, *words[:at], "--buffer", 4, "--quiet", "--no-audit", "--mode", "0600", *words[at:])
-    running.wait_until_told("capture: origin")
+    running.wait_until_told("bpfrec capture: origin")
     send_together(0, 10)
     running.interrupt()
     status, printed = running.ended()
@@ -71,7 +71,7 @@ def test_options_and_interfaces_that_are_none_are_refused(work: Path, words: lis
 
 def test_a_name_behind_two_dashes_is_out(work: Path) -> None:
     running = Running(work, LIVE, "--quiet", "--", "-o.ch11", "rx0", cwd=work)
-    running.wait_until_told("capture: origin")
+    running.wait_until_told("bpfrec capture: origin")
     running.interrupt()
     judge("it records", running.ended()[0] == 0 and (work / "-o.ch11").exists() and nothing_left(work), running.told())
 
@@ -90,6 +90,7 @@ def refusals(work: Path) -> list[tuple[list, int, str]]:
         (["rx0", "rx1"], 2, "rx0 is an interface: SETTINGS, OUT, then interfaces"),
         (["nosuch.toml", "OUT", "rx0=1"], 3, "nosuch.toml: no such file"),
         (["private", "OUT"], 3, "private: it is a directory"),
+        (["--require-clock", "1", "sec", "OUT", "rx0"], 3, "sec: no such file"),
         (["/no/o.ch11", "rx0"], 3, "/no/o.ch11: no such folder"),
         (["/no/o.ch11", "rx0", "--every", "9"], 3, "/no/o.ch11: no such folder"),
         (["OUT", "rx0=0"], 2, "rx0=0: a channel ID is 1 to 65535"),
@@ -170,7 +171,7 @@ def test_a_filter_that_can_not_be_installed_is_refused_ahead_by_its_channel(work
     done = outcome(PREFLIGHT, "--live", write_settings(work, f'id = 1\nfilter = "{TEXT_FOR_ASM}"'), "o.ch11", "rx0=1")
     judge("a text for the assembler is taken", f"filter {TEXT_FOR_ASM}: " in done.stdout, done)
     running = Running(work, LIVE, "--quiet", work / "live.toml", work / "o.ch11", "rx0=1:arp")
-    running.wait_until_told("capture: origin")
+    running.wait_until_told("bpfrec capture: origin")
     running.end_well()
 
 
@@ -199,7 +200,7 @@ def test_an_out_whose_facts_would_have_too_long_a_name_is_refused(work: Path, op
         judge("preflight says so too", done.returncode == 1 and told in done.stdout, done)
     out = "x" * most
     running = Running(work, LIVE, "--quiet", *options, out, "rx0", cwd=work)
-    running.wait_until_told("capture: origin")
+    running.wait_until_told("bpfrec capture: origin")
     wait_for("facts are there", (work / f"{out}{behind}.json").exists)
     running.interrupt()
     judge("one that is shorter by a byte is recorded", running.ended()[0] == 0 and nothing_left(work), running.told())

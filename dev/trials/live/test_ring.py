@@ -11,19 +11,7 @@ import pytest
 from disks import memory_disk
 from frames import numbers, numbers_in
 from namespace import send_numbered
-from recordings import (
-    YES,
-    Traffic,
-    begin,
-    extracted,
-    facts_of,
-    has_facts,
-    is_approved,
-    nothing_left,
-    parts_of,
-    recordings,
-    settings_of,
-)
+from recordings import YES, Traffic, begin, extracted, facts_of, nothing_left, parts_of, recordings, settings_of
 from support import BPFREC, LIVE, ROOT, Running, judge, judge_quietly, run, wait_for
 
 WANTED = ("bin/bpfrec", "bin/capture", "ip", "mount")
@@ -54,29 +42,6 @@ def test_keep_leaves_the_last_approved_recordings(work: Path) -> None:
     judge(
         "with their facts alone", sorted(it.name for it in work.glob("ring_*.json")) == [f"{it}.json" for it in wanted]
     )
-
-
-def test_keep_what_is_not_approved(work: Path) -> None:
-    """What the audit refuses stays, and so does a recording that was moved and another file in its place."""
-    program = work / "bpfrec"
-    program.write_text(
-        f'#!/bin/sh\nif [ "$1" = audit ] && mkdir {work}/once 2> /dev/null; then\n'
-        f'    echo "no 5 NoEnd 1"; exit 1\nfi\nexec {BPFREC} "$@"\n'
-    )
-    program.chmod(0o755)
-    running = begin(work, work / "ring.ch11", "--quiet", "--every", 1, "--keep", 1, adds={"BPFREC": str(program)})
-    wait_for("two are there", lambda: len(recordings(work, "ring")) >= 3)
-    second = work / "ring_00002.ch11"
-    second.rename(work / "moved.ch11")
-    second.write_bytes(b"another")
-    wait_for("others are removed", lambda: len(REMOVED.findall(running.told())) >= 1)
-    running.interrupt()
-    status, told = running.ended()[0], running.told()
-    judge("the status is the audit's", status == 1, told)
-    judge(
-        "what isn't approved stays", (work / "ring_00001.ch11").exists() and "ring_00001.ch11 was removed" not in told
-    )
-    judge("another file in its place stays", second.read_bytes() == b"another" and (work / "moved.ch11").exists(), told)
 
 
 def test_keep_free_makes_room_by_the_oldest(work: Path) -> None:
@@ -144,25 +109,6 @@ def test_a_link_in_the_place_of_out_is_not_followed(work: Path, name: str, words
         judge_quietly("nothing is created", not (work / "nowhere").exists() and nothing_left(work))
 
 
-def test_links_that_come_and_go_lead_nobody_astray(work: Path) -> None:
-    """Links that come and go in the place of OUT, of its facts and of the next recordings lead nobody astray."""
-    (work / "victim").write_bytes(b"kept")
-    running = Running(work, LIVE, "--quiet", "--every", 1, settings_of(work), work / "race.ch11", "rx0=1", "rx1=2")
-    running.wait_until_told("capture: origin")
-    for number in range(2, 6):
-        for ending in ("ch11.json.new", "ch11"):
-            path = work / f"race_{number:05}.{ending}"
-            if not path.exists():
-                path.symlink_to(work / "victim")
-    time.sleep(3.5)
-    running.interrupt()
-    status, told = running.ended()[0], running.told()
-    files = [it for it in recordings(work, "race") if not it.is_symlink()]
-    judge("it records, past the names that are taken", status == 0 and len(files) >= 3, (told, files))
-    judge("what the links lead to is kept", (work / "victim").read_bytes() == b"kept")
-    judge("each is whole", all(is_approved(it) and has_facts(it) and facts_of(it)["state"] == "ended" for it in files))
-
-
 def test_records_where_out_is_moved_at_once(work: Path) -> None:
     """A recorder writes the file that live created, whatever its name is by then."""
     out, elsewhere = work / "at_once.ch11", work / "elsewhere.ch11"
@@ -173,7 +119,7 @@ def test_records_where_out_is_moved_at_once(work: Path) -> None:
             out.rename(elsewhere)
             out.symlink_to(work / "victim")
             break
-    running.wait_until_told("capture: origin")
+    running.wait_until_told("bpfrec capture: origin")
     time.sleep(0.3)
     send_numbered("tx0", 0, 50)
     time.sleep(0.3)
@@ -216,7 +162,7 @@ def begin_slow(work: Path, out: Path, seconds: float, *options: object) -> Runni
     script = work / "slow"
     script.write_text(SLOW_HASH.format(host=str(ROOT / "host"), seconds=seconds))
     running = Running(work, "/usr/bin/python3", script, *options, settings_of(work), out, "rx0=1", "rx1=2")
-    running.wait_until_told("capture: origin")
+    running.wait_until_told("bpfrec capture: origin")
     return running
 
 

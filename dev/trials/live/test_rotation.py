@@ -1,8 +1,6 @@
 """Tries recordings of bpfrec live that follow one another: under traffic, at signals, without interfaces or room."""
 
-import os
 import re
-import signal
 import time
 from pathlib import Path
 
@@ -120,35 +118,14 @@ def test_recordings_go_on_without_an_interface(work: Path) -> None:
         "an interface that is gone is empty in later recordings",
         printed.count(YES) == len(files) and printed.count("channel 1 versions 1 offered 0 ") >= len(files) - 2,
     )
-    judge("and is told as gone at the end", "capture: rx0: the interface is gone\n" in running.told())
+    judge("and is told as gone at the end", "bpfrec capture: rx0: the interface is gone\n" in running.told())
     judge_parts("and the other has all its frames", parts_of(work, "gone", 2), list(range(sent)))
-
-
-@pytest.mark.parametrize("turn", range(10))
-def test_a_signal_in_a_handover_loses_no_frame(work: Path, turn: int) -> None:
-    """To bpfrec live alone; and to all, as soon as the next recording's file is there."""
-    settings = settings_of(work)
-    running = Running(work, LIVE, "--quiet", "--every", 1, settings, work / "turn.ch11", "rx0=1", "rx1=2")
-    running.wait_until_told("origin")
-    sent, begin = 0, time.monotonic()
-    while time.monotonic() - begin < 0.93 + 0.04 * turn if turn % 2 else len(recordings(work, "turn")) < 2:
-        send_together(sent, 2)
-        sent += 2
-    (os.kill if turn % 2 else os.killpg)(running.process.pid, signal.SIGTERM if turn % 2 else signal.SIGINT)
-    status, printed = running.ended()
-    judge(
-        "a signal in the middle of a change ends it well",
-        status == 0 and printed.count(YES) == len(recordings(work, "turn")),
-        (status, printed, running.told()),
-    )
-    for channel in (1, 2):
-        judge(f"and channel {channel} loses nothing", numbers_in(parts_of(work, "turn", channel)) == list(range(sent)))
 
 
 def test_a_recording_goes_on_where_no_further_file_can_be_created(work: Path) -> None:
     """A disk on which no further file can be created: the recording goes on."""
     settings = settings_of(work)
-    with memory_disk(work / "disk", "size=8m,nr_inodes=2") as disk:
+    with memory_disk(work / "disk", "size=8m,nr_inodes=3") as disk:
         running = Running(work, LIVE, "--quiet", "--every", 1, settings, disk / "full.ch11", "rx0=1", "rx1=2")
         running.wait_until_told("origin")
         sent, begin = 0, time.monotonic()
@@ -178,7 +155,11 @@ def refusals(work: Path, settings: Path, out: Path) -> list[tuple]:
     needs = f"--every and --size need an interface for each channel, and 5 of {own} has none"
     return [
         (["--every", 1, own, out, "rx0=1"], 2, f"bpfrec live: {needs}"),
-        (["--quiet", "--size", 5, settings, out, "rx0=1", "nowhere0=2"], 3, "capture: nowhere0: no such interface"),
+        (
+            ["--quiet", "--size", 5, settings, out, "rx0=1", "nowhere0=2"],
+            3,
+            "bpfrec capture: nowhere0: no such interface",
+        ),
     ]
 
 

@@ -66,7 +66,6 @@ def test_the_example_of_the_page_is_as_its_schema_says() -> None:
     for key, name, value in changes:
         wrong = {**example, key: [{**example[key][0], name: value}]}
         judge_quietly(f"{key} with {name} {value!r}", faults(wrong, schema_of("facts")))
-    judge("each key is judged", True)
 
 
 def test_settings_are_written_anew_with_each_value(work: Path) -> None:

@@ -68,7 +68,6 @@ def test_a_manager_that_is_gone_holds_nothing_up(work: Path, namespace: None) ->
         out = work / f"alone{len(name)}.ch11"
         running = begin(work, out, "--quiet", adds={"NOTIFY_SOCKET": name, "WATCHDOG_USEC": pause})
         running.end_well()
-    judge("a manager that is gone holds nothing up", True)
 
 
 def rights_of(pid: int) -> dict[str, str]:
@@ -93,7 +92,7 @@ def test_the_capture_alone_has_the_permission_of_the_unit(work: Path, namespace:
     words = [*user, *rights, place / "host/bin/bpfrec", "live", "--quiet", settings, out, "rx0=1", "rx1=2"]
     adds = {RUN: str(out), "BPFREC": str(place / "bin/bpfrec"), "CAPTURE": str(place / "bin/capture")}
     running = Running(work, *words, adds=adds, cwd=work)
-    running.wait_until_told("capture: origin")
+    running.wait_until_told("bpfrec capture: origin")
     wait_for(lambda: f"it records: {running.told()}", out.exists, 5)
     pids = [running.process.pid, process_of(out, place / "bin/bpfrec", "record")]
     for pid in pids:

@@ -67,14 +67,14 @@ def test_descriptors_that_become_short_cost_no_recording_in_silence(work: Path) 
 @pytest.mark.parametrize("options", [[], ["--every", 1], ["--status", "0"]], ids=["single", "every", "status"])
 def test_too_few_descriptors_are_refused_ahead_and_nothing_is_left(work: Path, options: list) -> None:
     """With the number that is needed, and with a hard limit that has room, it records."""
-    needed = {"--every": 48, "--status": 72}.get(options[0] if options else "", 32)
+    needed = {"--every": 65, "--status": 89}.get(options[0] if options else "", 49)
     for limits in [(6, 6), (10, 10), (16, 16), (needed - 1, needed - 1), (needed, needed), (16, 999)]:
         here = folder_of(work, f"limits{limits[0]}_{limits[1]}")
         words = ["--quiet", *options, settings_of(here), here / "out.ch11", "rx0=1", "rx1=2"]
         set_limits = functools.partial(resource.setrlimit, resource.RLIMIT_NOFILE, limits)
         running = Running(here, "/usr/bin/python3", LIVE, *words, adds={RUN: str(here)}, preexec_fn=set_limits)
         if limits[1] >= needed:
-            running.wait_until_told("capture: origin")
+            running.wait_until_told("bpfrec capture: origin")
             running.end_well()
         else:
             line = f"bpfrec live: it needs {needed} descriptors, and may have {limits[1]}: ulimit -n {needed}\n"

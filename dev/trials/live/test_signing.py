@@ -90,16 +90,16 @@ def test_a_name_that_has_no_room_for_a_signature_is_refused(work: Path, namespac
 
 def test_signing_takes_no_more_descriptors_than_it_asks_for(work: Path, namespace: None) -> None:
     key = made_key(work, "fc1")
-    for limit in (39, 40):
+    for limit in (56, 57):
         out = work / f"{limit}.ch11"
         words = [LIVE, "--quiet", "--sign", key, settings_of(work), out, "rx0=1", "rx1=2"]
         set_limit = functools.partial(resource.setrlimit, resource.RLIMIT_NOFILE, (limit, limit))
         running = Running(work, "/usr/bin/python3", *words, preexec_fn=set_limit)
-        if limit < 40:
-            line = f"bpfrec live: it needs 40 descriptors, and may have {limit}: ulimit -n 40\n"
+        if limit < 57:
+            line = f"bpfrec live: it needs 57 descriptors, and may have {limit}: ulimit -n 57\n"
             judge("one too few", (running.ended()[0], running.told()) == (3, line), running.told())
             continue
-        running.wait_until_told("capture: origin")
+        running.wait_until_told("bpfrec capture: origin")
         running.interrupt()
         judge("enough", running.ended()[0] == 0 and signature_of(out).exists(), running.told())
 

@@ -1,7 +1,5 @@
 """Tries bpfrec live --span: packets that are written by their age, and the filters of a channel, which it leaves alone."""
 
-from __future__ import annotations
-
 import re
 import time
 from pathlib import Path
@@ -126,11 +124,8 @@ def test_the_next_recording_begins_ahead_of_the_last_filters(work: Path) -> None
     printed, told = end(running), running.told()
     judge("none is refused", "refused" not in told, told[-300:])
     found = versions_of(printed, 1)
-    judge(
-        "recordings follow one another",
-        all(MOST_VERSIONS - MOST_UNANSWERED <= it <= MOST_VERSIONS for it in found[:-1]),
-        found,
-    )
+    holds = all(MOST_VERSIONS - MOST_UNANSWERED <= it <= MOST_VERSIONS for it in found[:-1])
+    judge("recordings follow one another", holds, found)
     judge("as many as it takes", len(found) == 3 and sum(found) >= count, found)
     judge_quietly("each is approved", all(is_approved(it) for it in recordings(work, "many")) and nothing_left(work))
     judge("each frame is in one of them", numbers_in(parts_of(work, "many", 1)) == list(range(sent)))

@@ -49,11 +49,8 @@ class Start:
     def judge(self) -> None:
         status, printed = self.ended()
         is_whole = status == 0 and YES in printed and nothing_left(self.here)
-        judge(
-            f"{self.name}: it records, and {self.number.name} ends it",
-            is_whole and numbers(extracted(self.here, self.file, 1)) == list(range(100)),
-            (status, printed, self.told()),
-        )
+        holds = is_whole and numbers(extracted(self.here, self.file, 1)) == list(range(100))
+        judge(f"{self.name}: it records, and {self.number.name} ends it", holds, (status, printed, self.told()))
 
 
 class Nohup(Start):

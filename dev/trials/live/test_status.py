@@ -1,7 +1,5 @@
 """Tries bpfrec live --status and its table on a terminal, on two pairs of interfaces."""
 
-from __future__ import annotations
-
 import calendar
 import contextlib
 import os
@@ -11,14 +9,12 @@ import signal
 import socket
 import subprocess
 import time
-import urllib.error
-import urllib.request
 from pathlib import Path
 
 import pytest
 from recordings import Traffic, begin, is_approved, nothing_left, process_of, settings_of, write_settings
 from served import address_in, asked, status_of
-from support import CAPTURE, LIVE, judge, judge_quietly, outcome, run, wait_for
+from support import CAPTURE, LIVE, Running, judge, judge_quietly, wait_for
 
 WANTED = ("bin/bpfrec", "bin/capture", "ip")
 pytestmark = [pytest.mark.timed, pytest.mark.usefixtures("namespace")]
@@ -27,6 +23,18 @@ pytestmark = [pytest.mark.timed, pytest.mark.usefixtures("namespace")]
 def is_near(moment: str) -> bool:
     """Whether a moment in UTC is now, to some seconds."""
     return abs(calendar.timegm(time.strptime(moment[:19], "%Y-%m-%dT%H:%M:%S")) - time.time()) < 5
+
+
+def judge_lines(work: Path, live: Running, address: str) -> None:
+    """What a changed filter and a mark do to the status."""
+    (work / "other").write_text("1,6 0 0 7,")
+    live.type_in(f"set 2 {work}/other")
+    wait_for("a filter that is changed is told", lambda: status_of(address)["channels"][1]["version"] == 1, 5)
+    told = [(it["filter"], it["changes"]) for it in status_of(address)["channels"]]
+    judge("by its file, and how often", told == [("all", 0), ("other", 1)], told)
+    judge("the metrics too", b'interface="rx1",filter="other"} 1\n' in asked(address, "metrics"))
+    live.type_in("mark gear up")
+    wait_for("a mark is told", lambda: [it["text"] for it in status_of(address)["marks"]] == ["gear up"], 5)
 
 
 def test_the_status_tells_what_was_sent(work: Path) -> None:
@@ -47,42 +55,22 @@ def test_the_status_tells_what_was_sent(work: Path) -> None:
     judge(
         "the page and the metrics too", b"<!DOCTYPE" in asked(address, "") and b"bpfrec_" in asked(address, "metrics")
     )
-    (work / "other").write_text("1,6 0 0 7,")
-    live.type_in(f"set 2 {work}/other")
-    wait_for("a filter that is changed is told", lambda: status_of(address)["channels"][1]["version"] == 1, 5)
-    told = [(it["filter"], it["changes"]) for it in status_of(address)["channels"]]
-    judge("by its file, and how often", told == [("all", 0), ("other", 1)], told)
-    judge("the metrics too", b'interface="rx1",filter="other"} 1\n' in asked(address, "metrics"))
-    live.type_in("mark gear up")
-    wait_for("a mark is told", lambda: [it["text"] for it in status_of(address)["marks"]] == ["gear up"], 5)
+    judge_lines(work, live, address)
     found = status_of(address)
     judge("the host and its UTC", found["host"] == socket.gethostname() and is_near(found["utc"]), found["utc"])
-    traffic.end()
+    sent = traffic.end()
+
+    def offered() -> list[int]:
+        return [it["offered"]["frames"] for it in status_of(address)["channels"]]
+
+    wait_for("all that was sent was offered", lambda: offered() == [sent, sent], 5)
+    found = status_of(address)
+    judge("nothing is lost, and nothing wrong", found["recording"]["fault"] is None and not found["alarms"], found)
     live.interrupt()
     judge("it ends well", live.ended()[0] == 0 and is_approved(work / "a.ch11"), live.told())
     with pytest.raises(OSError):
         asked(address)
     judge("nothing is left", nothing_left(work))
-
-
-def test_another_address_is_asked_by_it_and_by_names_that_are_given(work: Path) -> None:
-    """A page of the web whose name leads to that address gets nothing."""
-    run("ip", "address", "add", "192.0.2.7/24", "dev", "rx1")
-    words = ["--status", "192.0.2.7:0", "--status-name", "recorder.example", "--status-name", "tap"]
-    live = begin(work, work / "n.ch11", "--quiet", *words)
-    address = address_in(live.told())
-    for host, wanted in {"192.0.2.7": 200, "tap:8080": 200, "recorder.example": 200, "evil.example": 421}.items():
-        request = urllib.request.Request(f"{address}metrics", headers={"Host": host})
-        try:
-            with urllib.request.urlopen(request, timeout=5) as answer:
-                found = answer.status
-        except urllib.error.HTTPError as refused:
-            found = refused.code
-        judge_quietly(f"Host: {host}: {found}", found == wanted)
-    live.end_well()
-    other = outcome(LIVE, "--status-name", "tap", work / "x.ch11", "rx0")
-    told = (other.returncode, other.stderr)
-    judge("names without a page are refused", told == (2, "bpfrec live: --status-name needs --status\n"), told)
 
 
 def test_the_status_tells_of_recordings_that_follow(work: Path) -> None:
@@ -114,18 +102,6 @@ def test_behind_a_pause_of_the_capture_no_second_has_its_sum(work: Path) -> None
     usual = sorted(it for it in history if it)[len(history) // 2]
     judge("each bar is about as high", len(history) >= 14 and max(it or 0 for it in history) < 1.6 * usual, history)
     judge("and none of those of the pause is missing", all(it for it in history[3:]), (sent, history))
-
-
-def test_a_wrong_address_is_refused_before_recording(work: Path) -> None:
-    """Before anything is recorded."""
-    with socket.create_server(("127.0.0.1", 0)) as other:
-        port = other.getsockname()[1]
-        done = outcome(LIVE, "--status", str(port), settings_of(work), work / "x.ch11", "rx0=1", "rx1=2")
-    told = f"bpfrec live: --status 127.0.0.1:{port}: Address already in use\n"
-    judge("a port that another has", (done.returncode, done.stderr) == (3, told), done)
-    done = outcome(LIVE, "--status", "here", settings_of(work), work / "x.ch11", "rx0=1", "rx1=2")
-    judge("another word", done.returncode == 2 and "--status here: it takes PORT" in done.stderr, done)
-    judge("nothing is there", not (work / "x.ch11").exists())
 
 
 def test_a_killed_run_gives_its_port_free(work: Path) -> None:
@@ -172,9 +148,9 @@ def test_a_terminal_has_a_table_and_the_report_at_the_end(work: Path) -> None:
     text = re.sub(r"\x1b(\[[0-9;]*[A-Za-z]|[78])", "", found.decode())
     judge_quietly("it ends well", live.wait() == 0, text)
     judge("it is drawn each second", text.count("RECORDING") >= 3 and "rx0" in text, text)
-    told = [it for it in text.splitlines() if re.fullmatch(r"capture: rx0 frames \d+ .*", it.strip())]
+    told = [it for it in text.splitlines() if re.fullmatch(r"bpfrec capture: rx0 frames \d+ .*", it.strip())]
     judge("a line of counts comes at the end alone", len(told) == 1, told)
-    judge("what is told stands there too", "capture: origin" in text and "yes other 0" in text, text)
+    judge("what is told stands there too", "bpfrec capture: origin" in text and "yes other 0" in text, text)
     judge(
         "and at the end the table is taken away",
         re.search(rb"yes other 0.*\x1b\[\d+F\x1b\[J$", found, re.DOTALL),

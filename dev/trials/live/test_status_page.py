@@ -3,8 +3,6 @@
 Its pictures go to bin/trials/status/, to be looked at.
 """
 
-from __future__ import annotations
-
 import html.parser
 import json
 import re
@@ -51,10 +49,8 @@ def test_the_page_fetches_nothing_from_outside() -> None:
     links.feed(PAGE.decode())
     text = PAGE.decode().replace("http://www.w3.org/2000/svg", "")
     judge("the page fetches nothing", links.found == [], links.found)
-    judge(
-        "nor by its style or script",
-        not re.search(r"https?:|@import|url\(|import\(|innerHTML|document\.write|eval", text),
-    )
+    holds = not re.search(r"https?:|@import|url\(|import\(|innerHTML|document\.write|eval", text)
+    judge("nor by its style or script", holds)
     judge("nothing in it blinks", not re.search(r"animation|@keyframes|blink|transition", text))
 
 
@@ -85,11 +81,8 @@ def test_the_page_fits_its_screen(
     page.picture(PICTURES / f"{count}_{size[0]}_{scheme}.png")
     judge("nobody complains", page.complaints() == [], page.complaints())
     address = flight.status.address()
-    judge(
-        "only its own data were fetched",
-        set(page.requests()) <= {address, f"{address}status.json", "data:,"},
-        page.requests(),
-    )
+    holds = set(page.requests()) <= {address, f"{address}status.json", "data:,"}
+    judge("only its own data were fetched", holds, page.requests())
 
 
 def test_each_alarm_has_its_colour_and_its_sentence(browser: Browser, flown: Callable) -> None:
@@ -105,9 +98,8 @@ def test_each_alarm_has_its_colour_and_its_sentence(browser: Browser, flown: Cal
         33: ["channel alarm", "PIPE WAITS"],
         41: ["channel warning", "LOST FRAMES"],
     }
-    judge(
-        "each channel has its word", found == {it: wanted.get(it, ["channel ok", "ok"]) for it in range(1, 65)}, found
-    )
+    holds = found == {it: wanted.get(it, ["channel ok", "ok"]) for it in range(1, 65)}
+    judge("each channel has its word", holds, found)
     rows = page.ask("[...document.querySelectorAll('#alarms li')].map(it => it.textContent)")
     judge("and its sentence", len(rows) == 5 and rows[0] == "ALARM: channel 5 (eth4): no frame came for 35 s", rows)
     judge("and the last is a warning", rows[-1].startswith("Warning: channel 41 (eth40): frames were lost: 5"), rows)
@@ -173,9 +165,8 @@ def test_texts_stand_out_as_wcag_asks(browser: Browser, flown: Callable, scheme:
 def test_the_page_goes_on_with_the_run(browser: Browser, flown: Callable) -> None:
     flight = flown({1: Wire("eth0"), 2: Wire("eth1")}, 10)
     page = opened(browser, flight, DESKTOP)
-    judge(
-        "all is well", page.ask(WORD) == "RECORDING" and page.ask("document.getElementById('band').className") == "ok"
-    )
+    holds = page.ask(WORD) == "RECORDING" and page.ask("document.getElementById('band').className") == "ok"
+    judge("all is well", holds)
     flight.wires[2].dropped = 7
     flight.pass_second()
     judge("what comes is shown within two seconds", page.wait(f"{WORD} === '1 ALARM, RECORDING'", 3), page.ask(WORD))
@@ -186,9 +177,8 @@ def test_the_page_goes_on_with_the_run(browser: Browser, flown: Callable) -> Non
     flight.pass_second()
     judge("a channel that comes too", page.wait(f"{CHANNELS} === 3", 3))
     rows = page.ask("[...document.querySelectorAll('#recordings td')].map(it => it.textContent)")
-    judge(
-        "recordings before stand below, with their audit", rows[0] == "flight.ch11" and rows[2] == "no 5 NoEnd 2", rows
-    )
+    holds = rows[0] == "flight.ch11" and rows[2] == "no 5 NoEnd 2"
+    judge("recordings before stand below, with their audit", holds, rows)
     page.picture(PICTURES / "audit_no.png")
     flight.end_recording()
     flight.status.ended(flight.now())
@@ -263,11 +253,8 @@ def test_a_script_that_got_in_does_not_run(browser: Browser, flown: Callable) ->
     )
     judge("it isn't run", page.ask("window.wasRun === undefined"))
     found = page.ask("fetch('http://127.0.0.1:1/').catch(() => 0) && 1")
-    judge(
-        "nor may anything else be asked",
-        found == 1 and page.wait("1") and refused(page),
-        json.dumps(page.complaints())[:500],
-    )
+    holds = found == 1 and page.wait("1") and refused(page)
+    judge("nor may anything else be asked", holds, json.dumps(page.complaints())[:500])
 
 
 def refused(page: Page) -> bool:

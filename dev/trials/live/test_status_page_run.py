@@ -1,7 +1,5 @@
 """Looks at what the page of the status says of a run in Chromium: filters, scales, marks, UTC, recordings, pauses."""
 
-from __future__ import annotations
-
 import re
 import time
 from collections.abc import Callable
@@ -85,11 +83,8 @@ def test_long_filters_and_marks_fit_their_screen(
     heights = page.ask("[...document.querySelectorAll('.scale')].map(it => it.scrollHeight - it.clientHeight)")
     judge("nor higher than its graph", max(heights) <= 1, max(heights))
     lines = page.ask("[...document.querySelectorAll('.rates')].map(it => it.getBoundingClientRect().height)")
-    judge(
-        "the numbers of each have one line on a wall",
-        count < 64 or size != WALL or max(lines) < 1.5 * min(lines),
-        set(lines),
-    )
+    holds = count < 64 or size != WALL or max(lines) < 1.5 * min(lines)
+    judge("the numbers of each have one line on a wall", holds, set(lines))
     least = page.ask(
         "Math.min(...[...document.querySelectorAll('main *')].map(it => parseFloat(getComputedStyle(it).fontSize)))"
     )
@@ -109,9 +104,8 @@ def test_a_graph_has_its_scale_and_its_unit(browser: Browser, flown: Callable, f
     flight = flown({1: Wire("eth0", frames=frames, kept=0)}, 12)
     page = opened(browser, flight, DESKTOP)
     texts = page.ask("[...document.querySelectorAll('.scale span, .span span')].map(it => it.textContent)")
-    judge(
-        "from nothing to the highest bar, over a minute", texts == [f"{scale} frames/s", "0", "60 s ago", "now"], texts
-    )
+    holds = texts == [f"{scale} frames/s", "0", "60 s ago", "now"]
+    judge("from nothing to the highest bar, over a minute", holds, texts)
     places = page.ask(
         "(() => { const graph = document.querySelector('svg').getBoundingClientRect(); const [most, least] ="
         " [...document.querySelectorAll('.scale span')].map(it => it.getBoundingClientRect());"
@@ -130,15 +124,11 @@ def test_the_page_has_utc_the_host_and_marks(browser: Browser, flown: Callable) 
     shown = page.ask(TEXT.format("utc"))
     near = {time.strftime("%H:%M:%S", time.gmtime(asked + it)) for it in (-2, -1, 0, 1)}
     judge("UTC", shown in near, (shown, near))
-    judge(
-        "the day and the host", page.ask(TEXT.format("host")) == time.strftime("%Y-%m-%d, fc1.example", time.gmtime())
-    )
+    holds = page.ask(TEXT.format("host")) == time.strftime("%Y-%m-%d, fc1.example", time.gmtime())
+    judge("the day and the host", holds)
     row = page.ask("[...document.querySelectorAll('#marks td')].map(it => it.textContent)")
-    judge(
-        "a mark with its time and its recording",
-        row == ["2025-12-01 13:00:00.250", "flight.ch11", "gear <b>up</b>"],
-        row,
-    )
+    holds = row == ["2025-12-01 13:00:00.250", "flight.ch11", "gear <b>up</b>"]
+    judge("a mark with its time and its recording", holds, row)
     line = page.ask("document.querySelector('path.mark').getAttribute('d')")
     judge("and its place in the graph", line.startswith("M59.00 0h"), line)
 
@@ -172,10 +162,8 @@ def test_behind_a_pause_each_bar_has_its_own_second(browser: Browser, flown: Cal
     flight.pass_seconds(5)
     time.sleep(2.5)
     page.call("Page.setWebLifecycleState", state="active")
-    judge(
-        "it goes on",
-        page.wait("document.querySelectorAll('path.offered')[0].getAttribute('d').split('M').length > 45", 6),
-    )
+    holds = page.wait("document.querySelectorAll('path.offered')[0].getAttribute('d').split('M').length > 45", 6)
+    judge("it goes on", holds)
     came, kept = (heights_of(page.ask(HEIGHTS.format(name))) for name in ("offered", "kept"))
     judge("what came is as high in each", len(came) >= 45 and min(came) >= 29.9, came)
     judge("what was kept half as high", set(kept) == {15.0}, kept)

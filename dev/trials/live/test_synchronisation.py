@@ -71,9 +71,8 @@ def test_a_clock_that_becomes_worse_is_a_line_an_alarm_and_a_metric(work: Path) 
     kernels = [facts_of(out)["synchronisation"][it]["kernel"] for it in ("begin", "end")]
     judge_quietly("the facts have it", [it["maximum_error"] for it in kernels] == ["0.000500", "0.010000"], kernels)
     told = run(INFO, "--quiet", out)
-    judge(
-        "and info says it", re.search("^clock at the end +synchronised, off by at most 0.010000 s$", told, re.M), told
-    )
+    holds = re.search("^clock at the end +synchronised, off by at most 0.010000 s$", told, re.M)
+    judge("and info says it", holds, told)
 
 
 @pytest.mark.parametrize(
@@ -91,16 +90,12 @@ def test_a_worse_clock_is_refused_before_anything_is_begun(
     kernel, out = Synchronisation(work, is_synchronised, error), work / "x.ch11"
     words = ["--require-clock", asked_for, settings_of(work), out, "rx0=1", "rx1=2"]
     running = Running(work, LIVE, *words, adds=kernel.adds)
-    judge(
-        "by its name",
-        (running.ended(), running.told()) == ((3, ""), f"bpfrec live: --require-clock: {why}\n"),
-        running.told(),
-    )
+    holds = (running.ended(), running.told()) == ((3, ""), f"bpfrec live: --require-clock: {why}\n")
+    judge("by its name", holds, running.told())
     judge("nothing was begun", not out.exists() and nothing_left(work))
     told = preflight(work, kernel, *words)
-    judge(
-        "preflight says so too", told[1].endswith("1 fault\n") and f"clock: --require-clock: {why}\n" in told[1], told
-    )
+    holds = told[1].endswith("1 fault\n") and f"clock: --require-clock: {why}\n" in told[1]
+    judge("preflight says so too", holds, told)
 
 
 def preflight(work: Path, kernel: Synchronisation, *words: object) -> tuple[int, str]:
@@ -151,4 +146,3 @@ def test_other_words_are_no_error_of_a_clock(work: Path) -> None:
         done = outcome(LIVE, "--require-clock", word, work / "x.ch11", "rx0")
         line = "bpfrec live: --require-clock needs a number from 0.000001 to 16, in seconds, or as 10ms or 500us\n"
         judge_quietly(f"{word}: {done.stderr}", (done.returncode, done.stderr) == (2, line))
-    judge("each is refused", True)

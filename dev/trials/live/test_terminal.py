@@ -40,15 +40,13 @@ def test_ctrl_z_stops_live_alone_and_ctrl_c_ends_it_well(work: Path) -> None:
     terminal = Terminal(work, out)
     terminal.type_in(f"{LIVE} --quiet {settings_of(work)} {out} rx0=1 rx1=2")
     wait_for(lambda: f"it records: {terminal.shown!r}", lambda: is_recording(out, out), 10)
-    live = next(
-        pid for pid, words in processes_of(out).items() if "dev/trials/lib/tools/live" in words and state_of(pid) != "Z"
-    )
+    live = next(pid for pid, words in processes_of(out).items() if str(LIVE) in words and state_of(pid) != "Z")
     send_together(0, 100)
     terminal.type_in(f"set 2 {work}/none")
     terminal.wait_until_shown(b"installed 2 1 ")
     terminal.press(CTRL_Z)
     terminal.wait_until_shown(b"Stopped")
-    lives = [pid for pid, words in processes_of(out).items() if "dev/trials/lib/tools/live" in words]
+    lives = [pid for pid, words in processes_of(out).items() if str(LIVE) in words]
     judge("Ctrl-Z stops bpfrec live", "T" in [state_of(pid) for pid in lives], live)
     running = [state_of(process_of(out, program)) for program in (CAPTURE, BPFREC)]
     judge("and neither the capture nor the recorder", "T" not in running, running)
@@ -119,5 +117,9 @@ def test_a_report_that_nobody_reads_is_in_facts_with_the_audit(work: Path, is_la
         os.close(reader)
     status, told = running.process.wait(20), running.told()
     facts = facts_of(out)
-    judge("the status is that of the output", status == 3 and told.count("file -\n") == 1, (status, told))
+    judge(
+        "the status is that of the output",
+        status == 3 and told.count("bpfrec live: -: standard output takes no more\n") == 1,
+        (status, told),
+    )
     judge("the facts have the audit", (facts["status"], (facts["audit"] or [""])[-1]) == (0, YES), facts["audit"])

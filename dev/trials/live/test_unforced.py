@@ -9,20 +9,9 @@ from pathlib import Path
 from typing import Any
 
 import pytest
-from recordings import (
-    YES,
-    Traffic,
-    begin,
-    facts_of,
-    has_facts,
-    is_approved,
-    judge_parts,
-    nothing_left,
-    parts_of,
-    recordings,
-)
+from recordings import YES, Traffic, begin, facts_of, has_facts, is_approved, nothing_left, recordings
 from schemas import faults, schema_of
-from support import LIBRARY, Running, judge, judge_quietly, present, shared_library, wait_for
+from support import LIBRARY, Running, judge, present, shared_library, wait_for
 
 WANTED = ("bin/bpfrec", "bin/capture", "ip", "cc")
 pytestmark = [pytest.mark.timed, pytest.mark.usefixtures("namespace")]
@@ -76,35 +65,6 @@ def test_a_disk_that_fails_to_write_back_is_told_once_and_the_recording_goes_on(
     judge("as their schema says", faults(facts, schema_of("facts")) == [])
 
 
-def test_facts_of_a_disk_that_writes_back_have_no_fault(work: Path) -> None:
-    out = work / "good.ch11"
-    running = begin(work, out, "--quiet")
-    wait_for("facts are there", lambda: has_facts(out), 5)
-    running.end_well()
-    judge("the fault is null", facts_of(out)["sync_fault"] is None)
-
-
-def test_the_next_recording_begins_where_one_may_follow_and_not_too_often(work: Path) -> None:
-    """Each call fails, so recordings follow one another after one second, after two, and so on."""
-    running = begin(work, work / "bad.ch11", "--quiet", "--every", 1_000, adds=failing(work, 1, ALL))
-    traffic = Traffic()
-    wait_for("a next recording begins", lambda: len(recordings(work, "bad")) == 2, 4)
-    time.sleep(2.6)
-    count = len(recordings(work, "bad"))
-    judge("the one behind it later", count == 3, count)
-    sent = traffic.end()
-    time.sleep(0.1)
-    running.interrupt()
-    status, told = running.ended()[0], running.told()
-    files = recordings(work, "bad")
-    judge("each is told once", [told.count(line_of(it)) for it in files] == [1] * len(files) and status == 1, told)
-    judge_parts("each frame is in one of them", parts_of(work, "bad", 1), list(range(sent)))
-    for file in files:
-        facts = facts_of(file)
-        judge_quietly(f"{file.name}: its facts say what failed", facts["sync_fault"] == "Input/output error", facts)
-        judge_quietly(f"{file.name}: it is audited", facts["audit"][-1] == YES and is_approved(file), facts)
-
-
 def test_a_recording_that_is_not_on_its_disk_takes_no_others_place(work: Path) -> None:
     """--keep counts those that are: else the last that are safe would be removed while the disk takes none."""
     words = ["--quiet", "--every", 1, "--keep", 1]
@@ -135,6 +95,5 @@ def test_a_recorder_that_cannot_force_its_output_at_the_end_is_told(work: Path) 
     judge("it is told", f"bpfrec live: {out} can't be forced to its disk: the recorder's fsync failed\n" in told, told)
     facts = facts_of(out)
     judge("the status is 1, and the facts say it", (status, bool(facts["sync_fault"])) == (1, True), status)
-    judge(
-        "with the recorder's status, and the audit", (facts["status"], facts["audit"][-1]) == (3, YES), facts["audit"]
-    )
+    holds = (facts["status"], facts["audit"][-1]) == (3, YES)
+    judge("with the recorder's status, and the audit", holds, facts["audit"])

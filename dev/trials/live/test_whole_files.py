@@ -146,14 +146,6 @@ def test_a_file_in_its_place_is_kept(work: Path) -> None:
         status, told = running.ended()[0], running.told()
         judge("refused", status == 3 and told.startswith(f"bpfrec live: {whole_file(out)} is there: "), told)
         judge_quietly("nothing is created", not out.exists() and not (work / "nowhere").exists())
-    later = work / "later.ch11"
-    running = begin(work, later, "--quiet", "--chapter11")
-    whole_file(later).write_bytes(b"kept")
-    status, told = recorded(work, running)
-    judge(
-        "one that came meanwhile is told", f"bpfrec live: {whole_file(later)} isn't made: File exists\n" in told, told
-    )
-    judge("and kept", whole_file(later).read_bytes() == b"kept" and status == 3 and is_approved(later))
 
 
 def test_force_overwrites_it(work: Path) -> None:

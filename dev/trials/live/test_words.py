@@ -1,7 +1,5 @@
 """Tries lines in words beside interfaces: filters as expressions and texts, the next recording, the end, and --for."""
 
-from __future__ import annotations
-
 import json
 import subprocess
 import time

@@ -6,8 +6,6 @@ go into both interfaces all the time; a recording begins every ten seconds, six 
 served. Meanwhile the memory and the open descriptors of live are read each second. At the end each recording must have been approved by its audit, each frame must have been recorded
 that was sent, and memory and descriptors must not have grown after the first tenth of the time.
 """
-from __future__ import annotations
-
 import argparse
 import os
 import sys
@@ -51,11 +49,8 @@ def soak(work: Path, seconds: int) -> None:
     told = live.told()
     judge(f"{seconds} s with a recording every {EVERY} s: status {status}", status == 0, told[-2_000:])
     audits = printed.count("yes other 0")
-    judge(
-        f"{audits} recordings, each approved",
-        audits >= seconds // (2 * EVERY) and "\nno " not in printed,
-        printed[-2_000:],
-    )
+    holds = audits >= seconds // (2 * EVERY) and "\nno " not in printed
+    judge(f"{audits} recordings, each approved", holds, printed[-2_000:])
     reported = [it for it in printed.splitlines() if " versions " in it]
     recorded = sum(int(it.split()[it.split().index("offered") + 1]) for it in reported)
     judge(f"each of {sent} frames of both interfaces is in one of them", recorded == 2 * sent, recorded)

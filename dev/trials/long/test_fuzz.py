@@ -12,9 +12,8 @@ SECONDS, DRAWN = 60, 600
 def test_a_minute_of_drawn_inputs_keeps_no_case() -> None:
     done = outcome(sys.executable, LONG / "fuzz.py", "--seconds", SECONDS, BPFREC, seconds=SECONDS + 540)
     print(done.stdout)
-    judge(
-        f"inputs are drawn for {SECONDS} seconds, and no case is kept", done.returncode == 0, done.stdout + done.stderr
-    )
+    holds = done.returncode == 0
+    judge(f"inputs are drawn for {SECONDS} seconds, and no case is kept", holds, done.stdout + done.stderr)
 
 
 def test_so_many_drawn_inputs_keep_no_case() -> None:

@@ -1,8 +1,10 @@
 """Tries the completions: in bash and fish by their own functions, and in zsh at a terminal."""
 
+import json
 import os
 import pty
 import select
+import shutil
 import time
 from collections.abc import Callable
 from pathlib import Path
@@ -16,6 +18,9 @@ COMPLETIONS = ROOT / "dev/package/completions"
 SECONDS = 10
 Offers = Callable[[Path, str], set[str]]
 ENV = {**os.environ, "PATH": f"{COMMAND.parent}:{os.environ['PATH']}"}
+ORIGIN = {"origin": "1764590400.250000000", "counter": 0, "set_by": None, "scale": "UTC", "tai_offset": None}
+CHANNELS = [{"interface": "eth0", "channel": 1, "name": "bus_A"}, {"interface": "eth1", "channel": 2}]
+FACTS = json.dumps({"facts": 1, "host": "tap1", "origins": [ORIGIN], "losses": [], "interfaces": CHANNELS})
 # What follows the command's name, and what is offered: the file of its kind and the folder, values and lines.
 OFFERS = {
     "list ": {"one.ch11", "sub"},
@@ -33,6 +38,17 @@ OFFERS = {
     "live four.toml one.ch11 l": {"lo"},
     "publish --interface l": {"lo"},
     "tell control s": {"set", "status", "stop"},
+    "live --clock ": {"host", "adapter"},
+    "live --origin n": {"now"},
+    "export sub/named.ch11 --channel ": {"1", "2", "bus_A", "eth1"},
+    "follow sub/named.ch11 --channel b": {"bus_A"},
+    "export sub/named --channel 2": {"2"},
+    "tell sub/named set ": {"1", "2", "bus_A", "eth1"},
+    "tell sub/flight.toml set ": {"3", "bus_C"},
+    "extract sub/named.ch11 ": {"1", "2"},
+    "capture --direction ": {"both", "in", "out"},
+    "capture --ch": {"--check-sequence"},
+    "capture l": {"lo"},
     "nonsense ": set(),
 }
 
@@ -44,6 +60,9 @@ def folder(work: Path) -> Path:
     (made / "sub").mkdir(parents=True)
     for name in ("one.ch11", "two.txt", "three.bpf", "four.toml", "five.feed", "six.script", "seven"):
         (made / name).write_text("")
+    (made / "sub/named.ch11").write_text("")
+    (made / "sub/named.ch11.json").write_text(FACTS)
+    (made / "sub/flight.toml").write_text('[[channel]]\nid = 3\ninterface = "eth2"\nname = "bus_C"\n')
     return made
 
 
@@ -117,6 +136,6 @@ ZSH = {
 
 @pytest.mark.parametrize("line", ZSH)
 def test_zsh_completes_each_line(folder: Path, line: str) -> None:
-    (folder / "sub").rmdir()
+    shutil.rmtree(folder / "sub")
     found = zsh_completes(folder, line)
     judge(f"zsh makes {ZSH[line]!r} of {line!r}", found.rstrip() == ZSH[line], repr(found))

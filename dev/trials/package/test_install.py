@@ -120,9 +120,8 @@ def judge_plugin(root: Path) -> None:
     told = ran("tshark", "-G", "folders")[1]
     judge("in the folder that it names", f"\t{found[0].parent}\n".replace(str(root), "") in told, told)
     is_same = found[0].read_bytes() == (ROOT / "bin/bpfrec.lua").read_bytes()
-    judge(
-        "it is the plugin of this checkout, and a link that holds when it is moved", is_same and found[0].is_symlink()
-    )
+    holds = is_same and found[0].is_symlink()
+    judge("it is the plugin of this checkout, and a link that holds when it is moved", holds)
 
 
 def judge_names(programs: Path) -> None:
@@ -164,10 +163,8 @@ def test_what_is_installed_records_and_leaves_nothing_beside(work: Path) -> None
         judge(f"man finds {name}", status == 0 and f"{dest}{PREFIX}/share/man/man1/bpfrec" in found, found)
     unit = Path(f"{dest}{PREFIX}/lib/systemd/system/bpfrec.service").read_text()
     judge("the unit runs what is installed", f"{PREFIX}/bin/bpfrec live" in unit and "/opt/bpfrec/host" not in unit)
-    judge(
-        "no link leads nowhere, and nothing is left beside",
-        all(it.exists() for it in files_in(dest)) and not list(dest.rglob("__pycache__")),
-    )
+    holds = all(it.exists() for it in files_in(dest)) and not list(dest.rglob("__pycache__"))
+    judge("no link leads nowhere, and nothing is left beside", holds)
 
 
 def installed_in(dest: Path) -> dict[str, tuple]:
@@ -192,10 +189,8 @@ def test_what_is_installed_may_be_read_by_all_whatever_the_umask(work: Path) -> 
     for name, (mode, what) in first.items():
         is_program = name.startswith(tuple(f"{PREFIX[1:]}/{it}" for it in programs))
         wanted = "0o755" if what == "folder" or is_program else "0o644"
-        judge_quietly(
-            f"{name} has the mode {wanted}: {mode}",
-            mode == ("0o777" if isinstance(what, str) and what != "folder" else wanted),
-        )
+        holds = mode == ("0o777" if isinstance(what, str) and what != "folder" else wanted)
+        judge_quietly(f"{name} has the mode {wanted}: {mode}", holds)
     pages = {it.name for it in Path(f"{dest}{PREFIX}/share/man/man1").iterdir()}
     judge("each verb has its page", pages == {it.name for it in PAGES}, pages)
     made("install", dest)
@@ -222,11 +217,8 @@ def test_a_program_without_its_proof_is_not_installed(work: Path) -> None:
     shutil.copy(ROOT / "dev/package/install.sh", top / "dev/package")
     shutil.copy("/bin/true", top / "bin/bpfrec")
     status, told = ran(top / "dev/package/install.sh", env={**os.environ, "DESTDIR": str(top / "dest")})
-    judge(
-        "a program that isn't proved is refused",
-        status == 3 and "wasn't built from its proof" in told and not (top / "dest").exists(),
-        told,
-    )
+    holds = status == 3 and "wasn't built from its proof" in told and not (top / "dest").exists()
+    judge("a program that isn't proved is refused", holds, told)
 
 
 # ---- the packages

@@ -1,8 +1,6 @@
 """Tries the two readers of recordings, bpfrec's and that of host/, at both ends of each length and number, and with
 bytes set that neither judges. What each case is, is known by docs/user/formats/recording.md."""
 
-from __future__ import annotations
-
 import struct
 from pathlib import Path
 

@@ -76,7 +76,6 @@ def test_drawn_recordings(work: Path, seed: int) -> None:
     for origin in (0, ORIGIN, -ORIGIN):
         setup = Setup((Origin(0, origin),), "h\u00f6st", "", origin > 0, ("G\\SC:U", "G\\SC:", "X:a:b"), names)
         judge_whole(work, f"{seed}: origin {origin}", bytes(made.data), setup)
-    judge(f"{len(channels)} channels", True)
 
 
 @pytest.mark.parametrize("seed", range(12))
@@ -89,7 +88,6 @@ def test_a_clock_that_is_set_under_way(work: Path, seed: int) -> None:
         for counter in draw.choices(range(30 * SECOND), k=draw.choice([1, 3, 40]))
     ]
     judge_file(work, f"{seed}", bytes(made.data), Setup((Origin(draw.randrange(30 * SECOND), ORIGIN), *noted)))
-    judge(f"{len(noted)} origins", True)
 
 
 @pytest.mark.parametrize(
@@ -119,14 +117,11 @@ def test_recordings_of_nothing(work: Path) -> None:
     judge("ends alone", judge_whole(work, "ends", bytes(ends.data)).startswith("times 1 packets 0 records 2 "))
     programs = DrawnRecording()
     programs.add_program(1, 0, 5, drawn_insns(random.Random(1)))
-    judge(
-        "a program alone",
-        judge_whole(work, "programs", bytes(programs.data)).startswith("times 1 packets 0 records 1 "),
-    )
+    holds = judge_whole(work, "programs", bytes(programs.data)).startswith("times 1 packets 0 records 1 ")
+    judge("a program alone", holds)
     hollow = packet_of(3, body_of([]), 0, FRAMES, 50, True)
-    judge(
-        "a packet of no frames names its channel", judge_whole(work, "hollow", hollow).startswith("times 1 packets 0 ")
-    )
+    holds = judge_whole(work, "hollow", hollow).startswith("times 1 packets 0 ")
+    judge("a packet of no frames names its channel", holds)
     judge("by its setup record", b"R-1\\TK1-2:3;" in (work / "flight.ch10").read_bytes())
 
 
@@ -154,7 +149,6 @@ def test_frames_at_each_end(work: Path) -> None:
     last.add_frames(1, [frame(LAST_COUNTER - 3 * SECOND), frame(LAST_COUNTER)])
     last.add_end(1, 0, LAST_COUNTER)
     judge_whole(work, "the last counter", bytes(last.data))
-    judge("all", True)
 
 
 def test_programs_that_change_with_every_frame(work: Path) -> None:
@@ -169,7 +163,6 @@ def test_old_recordings(work: Path) -> None:
     """Without data checksums, and as the program wrote them."""
     for sample in SAMPLES:
         judge_file(work, sample.name, sample.read_bytes(), NOW)
-    judge(f"{len(SAMPLES)} of them", True)
 
 
 def test_more_packets_than_a_node_names(work: Path) -> None:

@@ -1,7 +1,5 @@
 """Tries bpfrec export on recordings of several recorders: one file, with a channel for each of theirs."""
 
-from __future__ import annotations
-
 import json
 import os
 import pty
@@ -13,7 +11,7 @@ from typing import NamedTuple
 import pytest
 import tomllib
 from expected_facts import UNKNOWN_SCALE
-from frames import FRAMES, HEADER_LENGTH, body_of, numbered, packet_of, program_packet, records, with_check_sequence
+from frames import HEADER_LENGTH, packet_of, records
 from joined_file import joined_file
 from recorder import extracted
 from several_recorders import facts_by, recording_at, run_at
@@ -94,19 +92,6 @@ def test_a_terminal_has_the_order_by_which_a_refusal_counts(work: Path, turned: 
     judge("a line", told == (line if turned else ""), told)
 
 
-def test_channels_that_do_not_meet_keep_their_ids(work: Path) -> None:
-    """Each name stands alone too, where no other has it."""
-    for number, interface in ((1, "eth0"), (2, "eth1")):
-        facts = facts_by("tap", interface, origin())
-        facts["interfaces"] = [{"interface": interface, "channel": number}]
-        recording_at(work / f"{number}.ch11", [SECOND], number, facts, channel=number)
-    done = made(work, "1.ch11", "2.ch11", "all.ch10")
-    judge("nothing is renumbered", done.returncode == 0 and done.stdout.startswith("times "), done)
-    setup = (work / "all.ch10").read_bytes()
-    judge("their names", b"ENAM-2-1:eth0;" in setup and b"ENAM-3-1:eth1;" in setup and b"R-1\\ID:tap;" in setup)
-    judge_whole(work / "all.ch10", 2)
-
-
 def test_ids_that_meet_get_the_least_that_nobody_has(work: Path) -> None:
     """Three recorders of channel 1, one of channel 2: those that come later get 3 and 4."""
     for at, channel in enumerate((1, 1, 2, 1)):
@@ -127,56 +112,6 @@ def test_a_channel_without_a_name_is_called_by_its_id(work: Path) -> None:
     setup = (work / "all.ch10").read_bytes()
     for line in (b"ENAM-2-1:channel 1 of tap0;", b"ENAM-3-1:channel 2;", b"ENAM-4-1:channel 1 of tap1;"):
         judge(line.decode(), line in setup)
-
-
-@pytest.mark.parametrize("moved", [SECOND // 2, -SECOND // 2, SECOND, 3_600 * SECOND + 1])
-def test_each_frame_has_the_time_of_its_own_clock(work: Path, moved: int) -> None:
-    """Counters are those since the earlier origin."""
-    late, early = max(moved, 0), max(-moved, 0)
-    counters = [SECOND, SECOND + 1, 3 * SECOND]
-    recording_at(work / "one.ch11", [it + late for it in counters], 1, facts_by("tap1", "eth0", origin()))
-    recording_at(work / "two.ch11", [it + early for it in counters], 2, facts_by("tap2", "eth0", origin(moved)))
-    done = made(work, "one.ch11", "two.ch11", "all.ch10")
-    judge_quietly("it is made", done.returncode == 0, done)
-    judge_whole(work / "all.ch10", 2)
-    one, two = (frames_in(work / "all.ch10", channel) for channel in (1, 2))
-    judge("at one time", [it.counter for it in one] == [it.counter for it in two], (one, two))
-    judge("and nothing else changed", [it.bytes for it in two] == [it.bytes for it in frames_in(work / "two.ch11", 1)])
-
-
-def test_a_clock_that_was_set_counts_from_there_on(work: Path) -> None:
-    """A quarter of a second on, from the third frame."""
-    set_on = [*origin(), (f"{MOMENT}.250000000", 20, "0.250000000")]
-    recording_at(work / "one.ch11", [0, 10, 20, 30], 1, facts_by("tap1", "eth0", set_on))
-    recording_at(work / "two.ch11", [0, 10, 20, 30], 2, facts_by("tap2", "eth0", origin()))
-    judge_quietly("it is made", made(work, "one.ch11", "two.ch11", "all.ch10").returncode == 0)
-    judge_whole(work / "all.ch10", 2)
-    counters = [[it.counter for it in frames_in(work / "all.ch10", channel)] for channel in (1, 2)]
-    judge("counters", counters == [[0, 10, 2_500_020, 2_500_030], [0, 10, 20, 30]], counters)
-
-
-def test_a_clock_that_was_set_far_counts_as_it_did_last(work: Path) -> None:
-    """It was an hour ahead until the third frame, and then twice set a little."""
-    noted = [(f"{MOMENT + 3_600}.000000000", 0, None), *((it[0], 20, "-3600.000000000") for it in origin())]
-    noted += [(f"{MOMENT}.250000000", 30, "0.250000000"), (f"{MOMENT}.500000000", 40, "0.250000000")]
-    recording_at(work / "one.ch11", [0, 10, 20, 30, 40], 1, facts_by("tap1", "eth0", noted))
-    recording_at(work / "two.ch11", [0], 2, facts_by("tap2", "eth0", origin()))
-    done = made(work, "one.ch11", "two.ch11", "all.ch10")
-    line = (
-        "bpfrec export: one.ch11.json: the clock was set by over a second: frames before that have times by the clock "
-    )
-    judge("it is said", (done.returncode, done.stderr) == (0, f"{line}as it was set then\n"), done)
-    judge_whole(work / "all.ch10", 2)
-    counters = [it.counter for it in frames_in(work / "all.ch10", 1)]
-    judge("counters", counters == [0, 10, 20, 2_500_030, 5_000_040], counters)
-
-
-def test_a_clock_in_tai_is_beside_one_in_utc(work: Path) -> None:
-    by_tai = [(f"{MOMENT + 37}.000000000", 0, None, "TAI", 37)]
-    recording_at(work / "one.ch11", [SECOND], 1, facts_by("tap1", "eth0", by_tai))
-    recording_at(work / "two.ch11", [SECOND], 2, facts_by("tap2", "eth0", origin()))
-    judge_quietly("it is made", made(work, "one.ch11", "two.ch11", "all.ch10").returncode == 0)
-    judge("at one time", [frames_in(work / "all.ch10", it)[0].counter for it in (1, 2)] == [SECOND, SECOND])
 
 
 def test_drawn_recordings_become_one_file(work: Path) -> None:
@@ -200,7 +135,6 @@ def test_drawn_recordings_become_one_file(work: Path) -> None:
             moved = SECOND * turn * at
             frames = [it._replace(counter=it.counter + moved) for it in frames_in(work / f"{at}.ch11", channel)]
             judge_quietly(f"channel {new}", frames_in(work / "all.ch10", new) == frames, (turn, at, channel))
-    judge("drawn ones", True)
 
 
 # ---- runs
@@ -220,26 +154,6 @@ def test_a_run_and_another_recorder_become_one_file(work: Path, two: list[Path])
     recordings = [(work / it).read_bytes() for it in ("two.ch11", *names)]
     wanted = bytes(joined_file(recordings, setup).data)
     judge("byte for byte", (work / "all.ch10").read_bytes() == wanted)
-
-
-def test_a_run_of_which_one_is_missing(work: Path) -> None:
-    names = run_at(work, 3)
-    refused(work, 1, f"{names[0]}: next missing: {names[1]}: --gaps makes a file without it", names[0], names[2])
-    done = made(work, "--gaps", names[2], names[0], "all.ch10")
-    judge("it is made with --gaps", done.returncode == 0 and done.stdout.startswith("times "), done)
-    judge_whole(work / "all.ch10", 1)
-    comment = f"G\\COM:recordings of a run that are missing: {names[1]};\r\n".encode()
-    judge("and says so", comment in (work / "all.ch10").read_bytes())
-
-
-def test_recordings_of_one_interface_that_do_not_follow_one_another(work: Path) -> None:
-    """Each has a channel of its own."""
-    for name, begun in (("one", 0), ("two", SECOND)):
-        facts = {**facts_by("tap1", "eth0", origin(begun)), "recording": f"{name}.ch11"}
-        recording_at(work / f"{name}.ch11", [0], begun, facts)
-    done = made(work, "one.ch11", "two.ch11", "all.ch10")
-    judge("two channels", (done.returncode, done.stdout.splitlines()[0]) == (0, "channel 1 of two.ch11 is 2"), done)
-    judge_whole(work / "all.ch10", 2)
 
 
 # ---- what is refused
@@ -327,11 +241,3 @@ def test_setup_of_several_is_printed(work: Path, two: list[Path]) -> None:
     judge("and what is asked of all", found == {**asked, **wanted} and list(found)[:2] == [*asked][:2], found)
     done = made(work, "--print-setup", *ORDERED, "all.ch10")
     judge("there is no OUT", (done.returncode, done.stdout) == (3, "") and not (work / "all.ch10").exists(), done)
-
-
-def test_networks_of_several_are_those_of_their_channels(work: Path, two: list[Path]) -> None:
-    frame = (SECOND, 7 << 16, with_check_sequence(numbered(0)))
-    two[1].write_bytes(program_packet(1, 0) + packet_of(1, body_of([frame]), 0, FRAMES, SECOND, True))
-    done = made(work, "--print-setup", *ORDERED)
-    found = [it["channel"] for it in tomllib.loads(done.stdout)["recording"]]
-    judge("each has its own", ["net" in found[0][0], found[1][0]["id"], found[1][0]["net"]] == [False, 1, 7], found)

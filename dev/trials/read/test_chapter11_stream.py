@@ -113,7 +113,6 @@ def test_drawn_recordings(work: Path, seed: int) -> None:
     for origin in (0, ORIGIN, -ORIGIN):
         setup = Setup((Origin(0, origin),), "h\u00f6st", "", origin > 0, ("G\\SC:U", "X:a:b"), named)
         judge_stream(work, f"{seed}: origin {origin}", bytes(made.data), setup)
-    judge(f"{len(channels)} channels", True)
 
 
 @pytest.mark.parametrize("seed", range(12))
@@ -127,7 +126,6 @@ def test_a_clock_that_is_set_under_way(work: Path, seed: int) -> None:
     ]
     origins = (Origin(draw.randrange(30 * SECOND), ORIGIN), *noted)
     judge_stream(work, f"{seed}", bytes(made.data), Setup(origins, channels={it: ("c", 1) for it in channels}))
-    judge(f"{len(noted)} origins", True)
 
 
 def test_a_setup_record_each_ten_seconds(work: Path) -> None:
@@ -137,7 +135,6 @@ def test_a_setup_record_each_ten_seconds(work: Path) -> None:
         for number in range(4):
             made.add_frames(1, [frame(5 * SECOND + number * gap)])
         judge_stream(work, f"{gap} ticks", bytes(made.data), Setup((Origin(0, 0),), channels=CHANNELS))
-    judge("all", True)
 
 
 def test_ends_that_wait(work: Path) -> None:
@@ -202,7 +199,6 @@ def test_each_cut(work: Path, seed: int) -> None:
         status = (0 if cut in places else 1, "read 1 Truncated" in done.stderr.decode())
         judge_quietly(f"status at {cut}", status == (done.returncode, done.returncode == 1), done.stderr)
         before = len(done.stdout)
-    judge(f"{len(cuts)} cuts", True)
 
 
 def read_available(stream: int, wanted: int, seconds: float = 20.0) -> bytes:
@@ -275,11 +271,8 @@ def test_hostile_recordings(work: Path, seed: int) -> None:
     done = streamed(work, bytes(data[: draw.randrange(len(data))]), NOW)
     told = done.stderr.decode()
     is_named = told.startswith(("read ", "refused ", "packets ")) and told.count("\n") == 1
-    judge(
-        "a named end",
-        is_named and done.returncode == (0 if told.startswith("packets ") else 1),
-        (told, done.returncode),
-    )
+    holds = is_named and done.returncode == (0 if told.startswith("packets ") else 1)
+    judge("a named end", holds, (told, done.returncode))
 
 
 def test_memory_is_bounded(work: Path) -> None:

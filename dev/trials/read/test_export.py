@@ -13,13 +13,12 @@ from pathlib import Path
 
 import pytest
 from captures import fields_of
-from conversion.runs import Converted
 from damage import damaged
 from exports import Shown, wanted_of
 from frames import FRAMES, HEAD, body_of, packet_of, program_packet, with_check_sequence
 from pcapng_blocks import COMMENT, INTERFACE, blocks_in
-from reading import SAMPLES, SEED, packets_of, recording_of_three
-from recorder import RECORDINGS, extracted
+from reading import SAMPLES, SEED, packets_of
+from recorder import RECORDINGS
 from rows import AS_ROOT, TICKS_A_SECOND, drawn_recording, flight_of, seconds_of
 from support import BPFREC, judge, judge_quietly, outcome, present, run
 
@@ -77,11 +76,6 @@ def judge_export(work: Path, recording: Path) -> int:
     return len(seen)
 
 
-@pytest.fixture(scope="module")
-def three(place: Path) -> Path:
-    return recording_of_three(place)
-
-
 def drawn_versions(draw: random.Random) -> bytes:
     """Packets of frames of three channels, some without a frame, each behind any number of versions.
 
@@ -112,7 +106,6 @@ def test_drawn_recordings_are_exported_as_formats_says(work: Path) -> None:
     for turn in range(DRAWN):
         (work / "drawn.ch11").write_bytes(drawn_recording(draw, turn % 2 == 0))
         judge_export(work, work / "drawn.ch11")
-    judge(f"and those of {DRAWN} drawn ones of both profiles", True)
 
 
 def test_a_comment_has_the_first_and_last_of_several_versions(work: Path) -> None:
@@ -128,16 +121,7 @@ def test_a_comment_has_the_first_and_last_of_several_versions(work: Path) -> Non
     judge(f"{len(one)} comments on one version, {len(several)} on several", one and several and "" in comments)
 
 
-def test_a_second_opinion_reads_the_feeds_of_extract(work: Path, three: Path) -> None:
-    """Of each interface the feed that `extract` gives, marks and all."""
-    out = exported(work, three)
-    for number, channel in enumerate(wanted_of(three.read_bytes()).numbers):
-        same = Converted(out, 0, number).feed == extracted(three, channel, work / "one.feed")
-        judge(f"the feed of channel {channel}", same)
-
-
 def test_tshark_finds_wrong_the_check_sequences_that_are(work: Path, three: Path) -> None:
-    """tshark finds wrong the check sequences that are."""
     frames = wanted_of(three.read_bytes()).frames
     wrong = [str(at) for at, it in enumerate(frames, 1) if with_check_sequence(it.bytes[:-4]) != it.bytes]
     words = ["-o", "eth.check_fcs:TRUE", "-Y", "eth.fcs.status == 0", "-T", "fields", "-e", "frame.number"]
@@ -146,34 +130,12 @@ def test_tshark_finds_wrong_the_check_sequences_that_are(work: Path, three: Path
 
 
 def test_an_origin_shifts_times(work: Path, three: Path) -> None:
-    """An origin shifts times."""
     out, plain = exported(work, three, ORIGIN), wanted_of(three.read_bytes())
     judge("the bytes with an origin", out.read_bytes() == wanted_of(three.read_bytes(), ORIGIN).bytes)
     moments = [it[2] for it in seen_in(out)]
     ticks = 10**7
     wanted = [f"{ORIGIN + it.counter // ticks}.{it.counter % ticks:07}00" for it in plain.frames]
     judge("times are since 1970", moments == wanted)
-
-
-@pytest.mark.parametrize("word", ["", "x", "-1", "+1", "1.5", str(2**63), str(2**64)])
-def test_a_wrong_origin_is_refused(work: Path, word: str) -> None:
-    done = outcome(BPFREC, "export", SAMPLES[0], work / "none.pcapng", "--", word)
-    told = f"error: invalid value '{word}' for '[ORIGIN]'" in done.stderr
-    judge(f"the origin {word!r}", done.returncode == 2 and told and not (work / "none.pcapng").exists(), done)
-
-
-def test_an_export_goes_through_standard_streams(work: Path, three: Path) -> None:
-    """Standard input and standard output."""
-    wanted = wanted_of(three.read_bytes()).bytes
-    calls: list[tuple[list[object], bytes]] = [
-        (["export", three, "-"], b""),
-        (["export", "-", "-"], three.read_bytes()),
-    ]
-    for words, given in calls:
-        done = outcome(BPFREC, *words, input=given, text=False)
-        judge(f"{words[1:]}", (done.returncode, done.stdout, done.stderr) == (0, wanted, b""))
-    seen = outcome("sh", "-c", f"{BPFREC} export {three} - | tshark -n -r - -T fields -e frame.number")
-    judge("tshark reads it from a pipe", len(seen.stdout.split()) == len(wanted_of(three.read_bytes()).frames), seen)
 
 
 def test_each_packet_is_shown_before_the_next_is_read(three: Path) -> None:
@@ -234,11 +196,8 @@ def test_what_is_no_frame_says_so(work: Path) -> None:
     recording.write_bytes(b"".join([*packets, packet_of(1, body_of(frames), 0, FRAMES, 1, True)]))
     judge_export(work, recording)
     shown = [it.comments[-1:] for it in wanted_of(recording.read_bytes()).frames]
-    judge(
-        "each of them, and no other",
-        [bool(it) for it in shown] == [kind not in ((0, 18), (0, 60)) for kind in kinds],
-        shown,
-    )
+    holds = [bool(it) for it in shown] == [kind not in ((0, 18), (0, 60)) for kind in kinds]
+    judge("each of them, and no other", holds, shown)
 
 
 @pytest.mark.timed
@@ -285,16 +244,3 @@ def test_an_output_that_fails_has_the_first_bytes(work: Path) -> None:
             told = (done.returncode, done.stdout, done.stderr) == (3, "", f"file {out}\n")
             judge_quietly(f"room for {room} bytes", told and out.read_bytes() == wanted[:room], done)
             os.unlink(out)
-    judge("outputs that fail at each byte have what stands before", True)
-
-
-def test_a_full_output_is_told(work: Path, three: Path) -> None:
-    for out, given in (("/dev/full", "file /dev/full\n"), ("-", "file -\n")):
-        with open("/dev/full", "wb") as full:
-            done = outcome(BPFREC, "export", three, out, stdout=full, capture_output=False, stderr=-1)
-        judge(f"a full {out}", (done.returncode, done.stderr) == (3, given), done)
-    own = work / "own.ch11"
-    own.write_bytes(three.read_bytes())
-    done = outcome(BPFREC, "export", own, own)
-    refused = (done.returncode, done.stdout, done.stderr) == (3, "", f"file {own}\n")
-    judge("an OUT that is the recording", refused and own.read_bytes() == three.read_bytes(), done)

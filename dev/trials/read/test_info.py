@@ -2,7 +2,6 @@
 
 import contextlib
 import html.parser
-import json
 import os
 import random
 import shutil
@@ -35,13 +34,6 @@ def recording(place: Path) -> Path:
 @pytest.fixture(scope="module")
 def facts(recording: Path) -> dict:
     return facts_of(recording)
-
-
-def test_a_whole_recording_has_a_yes_and_nothing_missing(facts: dict) -> None:
-    judge(
-        "a whole recording has the audit's yes, and nothing is missing",
-        facts["audit"] == "yes other 0" and not facts["damaged"] and not facts["missing_sequence_numbers"],
-    )
 
 
 def capinfos(pcap: Path) -> list[float]:
@@ -82,25 +74,6 @@ def judge_beside_tshark(pcap: Path, channel: str, said: dict) -> None:
     )
 
 
-def test_packets_versions_and_ends_are_those_of_list(recording: Path, facts: dict) -> None:
-    """Packets, versions and ends beside those of list."""
-    lines = run(BPFREC, "list", recording).splitlines()
-    judge("its packets are those of list", sum(facts["packets"].values()) == len(lines) - 1)
-    listed = [line.split()[7:] for line in lines[:-1]]
-    programs = {tuple(map(int, it[1:4])) for it in listed if it[0] == "program"}
-    told = {
-        (int(channel), it["version"], it["first_frame"])
-        for channel, said in facts["channels"].items()
-        for it in said["versions"]
-    }
-    judge("its versions too", programs == told)
-    ends = {it[1]: (int(it[2]), int(it[2]) - int(it[3])) for it in listed if it[0] == "end"}
-    judge(
-        "its offered and dropped frames are those of the ends",
-        ends == {it: (said["offered"], said["dropped_by_filter"]) for it, said in facts["channels"].items()},
-    )
-
-
 def drawn_frames(draw: random.Random, turn: int) -> list[tuple[int, int, bytes]]:
     length, shortest = draw.randrange(0, 300), draw.choice([0, 17, 18])
     lengths = [length if turn % 2 else draw.randrange(shortest, 300) for _ in range(draw.randrange(1, 40))]
@@ -127,7 +100,6 @@ def test_bodies_are_read_alike_in_both_ways() -> None:
         for wrong in (body + b"\0\0", body[: len(body) - 2], body[:4] + body[8:]):
             with contextlib.suppress(BadBody):
                 judge_quietly(f"body {turn} is refused", walk(wrong) is None)
-    judge("bodies of frames of equal and other lengths are what they were made of", True)
 
 
 # ---- the page
@@ -154,10 +126,8 @@ def page_of(work: Path, recording: object) -> str:
 
 def test_the_page_has_all_channels_and_fetches_nothing(work: Path, recording: Path) -> None:
     page = page_of(work, recording)
-    judge(
-        "it wants nothing from outside",
-        not any(it in page for it in ("http:", "https:", "src=", "href=", "@import", "url(", "<script")),
-    )
+    holds = not any(it in page for it in ("http:", "https:", "src=", "href=", "@import", "url(", "<script"))
+    judge("it wants nothing from outside", holds)
     judge("it has all channels and filters", page.count("<svg") == 3 and page.count("<pre>") == 3 and "ret" in page)
 
 
@@ -175,7 +145,6 @@ ODD_NAMES = {
 
 @pytest.mark.parametrize("name", ODD_NAMES)
 def test_names_that_would_be_html_stand_as_text(work: Path, recording: Path, name: str) -> None:
-    """Names that would be HTML stand as text."""
     path = os.path.join(os.fsencode(work), ODD_NAMES[name])
     shutil.copy(bytes(recording), path)
     judge("no name becomes HTML", Tags(page_of(work, path)).found == Tags(page_of(work, recording)).found)
@@ -201,11 +170,11 @@ def test_an_empty_recording_has_a_page(work: Path) -> None:
 
 def test_what_info_cannot_read_is_refused_in_a_line(work: Path) -> None:
     cases: list[tuple[list[object], str]] = [
-        ([work / "nowhere"], f"file {work}/nowhere: No such file or directory\n"),
-        ([work], f"file {work}: Is a directory\n"),
-        (["--html", "/dev/full", SAMPLES[0]], "file /dev/full: No space left on device\n"),
-        (["--html", work / "no/page", SAMPLES[0]], f"file {work}/no/page: No such file or directory\n"),
-        (["--html", SAMPLES[0], SAMPLES[0]], f"file {SAMPLES[0]}: it is RECORDING itself\n"),
+        ([work / "nowhere"], f"bpfrec info: {work}/nowhere: No such file or directory\n"),
+        ([work], f"bpfrec info: {work}: Is a directory\n"),
+        (["--html", "/dev/full", SAMPLES[0]], "bpfrec info: /dev/full: No space left on device\n"),
+        (["--html", work / "no/page", SAMPLES[0]], f"bpfrec info: {work}/no/page: No such file or directory\n"),
+        (["--html", SAMPLES[0], SAMPLES[0]], f"bpfrec info: {SAMPLES[0]}: it is RECORDING itself\n"),
     ]
     for words, told in cases:
         done = outcome(INFO, *words)
@@ -214,41 +183,14 @@ def test_what_info_cannot_read_is_refused_in_a_line(work: Path) -> None:
     judge("words that are none", [outcome(INFO, *it).returncode for it in wrong] == [2, 2])
 
 
-@pytest.mark.parametrize("words", [[], ["--json"]], ids=["text", "json"])
-def test_a_full_output_is_told(words: list) -> None:
-    with open("/dev/full", "w") as full:
-        done = outcome(INFO, *words, SAMPLES[0], stdout=full, stderr=subprocess.PIPE)
-    judge("an output that is full", (done.returncode, done.stderr) == (3, "file -: No space left on device\n"), done)
-
-
 def test_a_pipe_is_read_and_not_audited(work: Path) -> None:
     os.mkfifo(work / "pipe")
     writer = subprocess.Popen(["cp", SAMPLES[0], work / "pipe"])
     done = outcome(INFO, work / "pipe")
-    judge(
-        "a pipe is read, and not audited",
-        writer.wait() == 0 and done.returncode == 0 and "not asked: no regular file" in done.stdout,
-        done,
-    )
+    holds = writer.wait() == 0 and done.returncode == 0 and "not asked: no regular file" in done.stdout
+    judge("a pipe is read, and not audited", holds, done)
 
 
 def test_without_the_program_info_says_so() -> None:
     done = outcome(INFO, SAMPLES[1], env={**os.environ, "BPFREC": "/nowhere"})
     judge("without bpfrec it says so", done.returncode == 0 and "not asked: bpfrec is missing" in done.stdout, done)
-
-
-def test_equal_programs_in_a_row_are_shown_as_one(work: Path) -> None:
-    """Equal programs that follow one another are shown as one."""
-    path = work / "same.ch11"
-    path.write_bytes(b"".join(program_packet(1, at, (6, 0, 0, keeps)) for at, keeps in enumerate([1, 1, 1, 0, 0, 1])))
-    told = run(INFO, path)
-    names = [line.split("  ")[1] for line in told.splitlines() if line.startswith("  version ")]
-    judge("equal versions are one", names == ["version 0 to 2", "version 3 to 4", "version 5"], told)
-    judge(
-        "and all are counted", any(it.split() == ["versions", "of", "the", "filter", "6"] for it in told.splitlines())
-    )
-    said = json.loads(run(INFO, "--json", path))["channels"]["1"]
-    judge("in JSON too", [(it["version"], it["until"]) for it in said["versions"]] == [(0, 2), (3, 4), (5, 5)], said)
-    run(INFO, "--html", work / "same.html", path)
-    page = (work / "same.html").read_text()
-    judge("and on the page", "Version 0 to 2" in page and "Version 3 to 4" in page and "Version 4<" not in page)

@@ -1,19 +1,16 @@
 """Tries bpfrec info and bpfrec salvage on cut and damaged recordings: each damaged place, and what is kept."""
 
-import errno
 import json
 import os
 import random
-import shutil
 import subprocess
-import sys
 from pathlib import Path
 
 import pytest
 from damage import damaged_sample, nested
-from frames import end_packet, frames_packet, program_packet
-from reading import SAMPLES, SEED, facts_of, packets_of, recording_of_three, salvaged
-from support import BPFREC, INFO, LIBRARY, SALVAGE, judge, judge_quietly, outcome, run, shared_library
+from frames import end_packet, frames_packet, numbered, program_packet, sum_of, with_check_sequence
+from reading import SAMPLES, SEED, BlockSums, facts_of, packets_of, recording_of_three, salvaged
+from support import BPFREC, INFO, SALVAGE, judge, judge_quietly, outcome, run
 
 WANTED = ("bin/bpfrec", "cc")
 DAMAGED = 1_000
@@ -57,10 +54,8 @@ def judge_draw(work: Path, turn: int, data: bytes) -> bool:
     path.write_bytes(data)
     done = outcome(INFO, "--json", path) if turn < 50 else None
     facts = json.loads(done.stdout) if done else facts_of(path)
-    judge_quietly(
-        f"draw {turn}: status and messages",
-        not done or (done.returncode == bool(facts["damaged"]) and not done.stderr),
-    )
+    holds = not done or (done.returncode == bool(facts["damaged"]) and not done.stderr)
+    judge_quietly(f"draw {turn}: status and messages", holds)
     judge_places(turn, work, data, facts["damaged"])
     first = facts["damaged"][0] if facts["damaged"] else {"fault": "", "at": 0}
     number = {"Checksum": 3, "DataChecksum": 8}.get(first["fault"])
@@ -147,6 +142,44 @@ def test_a_whole_packet_between_damaged_ones_is_kept(work: Path, is_summed: bool
     judge(f"between two damaged packets: {told}", whole[2] in kept and kept.endswith(b"".join(whole[4:])))
 
 
+# ---- at the end of what is read at once
+
+
+def long_packet(sequence: int) -> bytes:
+    """A packet of more bytes than are read at once."""
+    frames = [(at, 0, with_check_sequence(numbered(at, 1_000))) for at in range(90)]
+    return frames_packet(frames, sequence, sequence, True)
+
+
+@pytest.mark.parametrize("at", [0, 5, 22])
+def test_a_damaged_last_header_is_told_once(work: Path, at: int) -> None:
+    """The last packet's header is damaged, and it was not read whole: its bytes are told once, and nothing is made of
+    what stands behind."""
+    whole, last = long_packet(0), bytearray(long_packet(1))
+    last[at] ^= 0x41
+    (work / "a.ch11").write_bytes(whole + last)
+    facts = facts_of(work / "a.ch11")
+    listed = outcome(BPFREC, "list", work / "a.ch11").stderr.split()
+    judge_quietly("the fault is that of list", [facts["damaged"][0]["fault"], str(len(whole))] == listed[2:4], facts)
+    holds = [(it["at"], it["bytes"]) for it in facts["damaged"]] == [(len(whole), len(last))]
+    judge("what is damaged is the last packet", holds, facts["damaged"])
+    kept, told = salvaged(whole + last)
+    judge("salvage keeps the first packet alone", kept == whole and f"lost {len(last)} " in told, told)
+
+
+@pytest.mark.parametrize("seed", range(20))
+def test_sums_by_blocks_are_those_of_the_words(seed: int) -> None:
+    """Sums by blocks are those of the words, of drawn parts of bytes that move on."""
+    draw = random.Random(seed)
+    data, sums, at = draw.randbytes(200_000), BlockSums(), 0
+    for _ in range(300):
+        at = min(at + draw.randint(0, 900), len(data) - 8)
+        begin = at + draw.randint(0, 40)
+        end = begin + 4 * draw.randint(0, min(16_000, (len(data) - begin) // 4))
+        found = sums.of_part(memoryview(data)[at:], at, begin, end)
+        judge_quietly(f"{begin} to {end}", found == sum_of(data[begin:end], 4))
+
+
 # ---- what salvage prints
 
 
@@ -171,30 +204,6 @@ def test_salvage_prints_its_lines_as_written_by_hand(work: Path) -> None:
     judge("and of a whole recording", (done.returncode, done.stdout) == (0, wanted), done)
 
 
-def test_salvage_forces_its_output_before_it_answers(work: Path) -> None:
-    """What salvage made is on its disk before its last lines are printed; where that fails, there are none."""
-    library = shared_library(LIBRARY / "told_fsync.c", work / "fsync.so")
-    cut, out = work / "forced.ch11", work / "forced_out.ch11"
-    cut.write_bytes(SAMPLES[1].read_bytes()[:-1])
-    plain = outcome(SALVAGE, cut, out)
-    lost, _, rest = plain.stdout.partition("\n")
-    cases: list[tuple[int, int, str, str]] = [
-        (0, 1, f"{lost}\nfsync\n{rest}", ""),
-        (errno.EIO, 3, f"{lost}\nfsync\n", f"file {out}: Input/output error\n"),
-        (errno.EINVAL, 1, f"{lost}\nfsync\n{rest}", ""),
-    ]
-    for fails, status, printed, told in cases:
-        more = {"LD_PRELOAD": str(library), **({"FSYNC_FAILS": str(fails)} if fails else {})}
-        done = outcome(sys.executable, SALVAGE, "--force", cut, out, env={**os.environ, **more})
-        judge(
-            f"salvage forces its output before it answers: {errno.errorcode.get(fails, 'done')}",
-            (done.returncode, done.stdout, done.stderr) == (status, printed, told),
-            done,
-        )
-    wanted = plain.stdout.replace("audit: no 5 NoEnd 1", "audit: not asked: no regular file, which could be read twice")
-    judge("a device that can't be forced is passed over", outcome(SALVAGE, cut, "/dev/null").stdout == wanted)
-
-
 def test_without_the_program_salvage_says_so(work: Path) -> None:
     """Where bpfrec can't be found, salvage says so."""
     cut, out = work / "cut.ch11", work / "out.ch11"
@@ -208,9 +217,9 @@ def test_without_the_program_salvage_says_so(work: Path) -> None:
 def test_what_salvage_cannot_read_is_refused_in_a_line(work: Path) -> None:
     out = work / "out"
     cases: list[tuple[list[object], int, str]] = [
-        ([work / "nowhere", out], 3, f"file {work}/nowhere: No such file or directory\n"),
-        ([work, out], 3, f"file {work}: Is a directory\n"),
-        ([SAMPLES[0], "/dev/full"], 3, "file /dev/full: No space left on device\n"),
+        ([work / "nowhere", out], 3, f"bpfrec salvage: {work}/nowhere: No such file or directory\n"),
+        ([work, out], 3, f"bpfrec salvage: {work}: Is a directory\n"),
+        ([SAMPLES[0], "/dev/full"], 3, "bpfrec salvage: /dev/full: No space left on device\n"),
         ([SAMPLES[0]], 2, "bpfrec salvage: it takes DAMAGED and OUT: bpfrec salvage --help has its arguments\n"),
     ]
     for words, status, told in cases:
@@ -221,12 +230,4 @@ def test_what_salvage_cannot_read_is_refused_in_a_line(work: Path) -> None:
         with open("/dev/full", "w") as full:
             done = outcome(SALVAGE, *words, stdout=full, stderr=subprocess.PIPE)
         answer = (done.returncode, done.stderr)
-        judge("standard output that is full", answer == (3, "file -: No space left on device\n"), done)
-
-
-def test_an_out_that_is_the_input_is_refused(work: Path) -> None:
-    path, link = work / "same.ch11", work / "link.ch11"
-    shutil.copy(SAMPLES[0], path)
-    os.link(path, link)
-    done = outcome(SALVAGE, path, link)
-    judge("OUT that is DAMAGED is refused", done.returncode == 3 and path.read_bytes() == SAMPLES[0].read_bytes(), done)
+        judge("standard output that is full", answer == (3, "bpfrec salvage: -: No space left on device\n"), done)

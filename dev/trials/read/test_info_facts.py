@@ -1,4 +1,4 @@
-"""Tries what bpfrec info makes of the facts beside a recording: rows, times, damage, and facts that are none."""
+"""Tries what bpfrec info makes of the facts beside a recording: rows, damage, and facts that are none."""
 
 import contextlib
 import io
@@ -8,9 +8,8 @@ import random
 from pathlib import Path
 from typing import Any
 
+import bpfrec
 import pytest
-from bpfrec_tools.cli.program import Audit
-from bpfrec_tools.info.contents import Recording
 from bpfrec_tools.info.facts_file import facts_beside
 from expected_facts import (
     BEFORE_1970,
@@ -20,7 +19,6 @@ from expected_facts import (
     UNKNOWN_SCALE,
     are_facts,
     damaged_facts,
-    drawn_origins,
     facts_of_run,
     is_utc,
     object_of,
@@ -28,7 +26,7 @@ from expected_facts import (
     time_by,
     value_of,
 )
-from reading import SEED, as_json, audit_of, facts_of, page_parts, read, recording_of_three, text_parts, time_of
+from reading import SEED, as_json, audit_of, json_of, page_parts, put_beside, read, text_parts
 from support import INFO, judge, judge_quietly, outcome, present, run
 
 WANTED = ("bin/bpfrec",)
@@ -76,16 +74,6 @@ frames lost                1,120 dropped, 3 skipped
 """
 
 
-def put_beside(recording: Path, facts: dict) -> Path:
-    beside = Path(f"{recording}.json")
-    beside.write_text(json.dumps(facts))
-    return beside
-
-
-def json_of(recording: Path) -> dict:
-    return json.loads(run(INFO, "--json", recording))
-
-
 # ---- without facts
 
 
@@ -108,16 +96,17 @@ def test_a_link_that_leads_nowhere_is_no_facts(sample: Path) -> None:
 
 @pytest.fixture
 def three(sample: Path) -> Path:
-    """A recording whose facts have three origins, losses and an odd name of a host."""
+    """A recording whose facts have three origins, losses, and odd names of a host and of an interface."""
     facts = facts_of_run(THREE_ORIGINS, [(120, 0, 3), (1_000, 0, 0)])
-    put_beside(sample, {**facts, "host": "fc1\n\ud800<b>"})
+    interfaces = [{"interface": "a<b\n", "channel": 1}]
+    put_beside(sample, {**facts, "host": "fc1\n\ud800<b>", "interfaces": interfaces})
     return sample
 
 
 def test_channels_are_named_by_the_facts(three: Path) -> None:
     rows = [f"facts                      {three}.json", *THREE_ROWS.splitlines()]
     head, line = WITHOUT_FACTS.splitlines()[:2]
-    named = {f"{head[:-7]}interface  remarks": head, f"{line}  eth0": line, "channel 1: eth0": "channel 1"}
+    named = {f"{head[:-7]}interface  remarks": head, f"{line}  a<b?": line, "channel 1: a<b?": "channel 1"}
     done = outcome(INFO, three)
     told = [named.get(it, it) for it in done.stdout.splitlines()]
     judge("channels are named", all(it in done.stdout.splitlines() for it in named), done.stdout)
@@ -153,7 +142,7 @@ def test_interruptions_are_there(work: Path, three: Path) -> None:
     wrong: list[object] = [None, -1, 2**48, [], "", "x" * 256]
     odd = [{**told[0], key: value} for key in told[0] for value in wrong if key != "to"]
     facts["interruptions"] = [*odd, *told, {**told[0], "to": "5"}, 7]
-    Path(f"{recording}.json").write_text(json.dumps(facts))
+    put_beside(recording, facts)
     rows = [
         "eth0 no carrier from 2025-12-01T12:00:01.2500000Z to 2025-12-01T12:00:02.7500000Z",
         "eth1 gone from 2025-12-01T12:00:03.2500000Z to the end",
@@ -173,7 +162,7 @@ def test_the_clock_at_the_beginning_and_the_end_is_there(work: Path, three: Path
     kernel = {"is_synchronised": True, "maximum_error": "0.000500"}
     begin = {"kernel": kernel, "chrony": {"reference": "192.0.2.1", "state": "Normal"}, "ptp": None}
     facts["synchronisation"] = {"begin": begin, "end": {"kernel": {**kernel, "is_synchronised": False}}}
-    Path(f"{recording}.json").write_text(json.dumps(facts))
+    put_beside(recording, facts)
     rows = {
         "clock at the beginning": "synchronised by chrony (192.0.2.1), off by at most 0.000500 s",
         "clock at the end": "not synchronised",
@@ -191,10 +180,51 @@ def test_the_clock_at_the_beginning_and_the_end_is_there(work: Path, three: Path
     for value in ODD_VALUES:
         for odd in (value, {"begin": value}, {"begin": {"kernel": value, "chrony": value, "ptp": value}}):
             facts["synchronisation"] = odd
-            Path(f"{recording}.json").write_text(json.dumps(facts))
+            put_beside(recording, facts)
             known = present(facts_beside(str(recording))).clocks().get("begin")
             judge_quietly(f"{odd}: {known}", known is None or known.is_synchronised is None and known.source is None)
-    judge("odd values say nothing", True)
+
+
+@pytest.mark.parametrize(
+    "span, said, rows",
+    [
+        (5_000_000, 5_000_000, ["0.5000000 s"]),
+        (0, 0, ["none"]),
+        *((it, None, []) for it in (-1, 2**48, "5", True, None)),
+    ],
+)
+def test_the_span_of_a_channel_is_there(work: Path, sample: Path, span: object, said: object, rows: list) -> None:
+    """As a text, in JSON and on the page, where it is known; what has another form is left out."""
+    facts = facts_of_run(TAI_37[:1])
+    facts["spans"] = [{"channel": 1, "span": span}, 7, {"channel": 0, "span": 1}, {"channel": 2, "span": 9}]
+    put_beside(sample, facts)
+    lines = run(INFO, sample).splitlines()
+    judge("as a text", [it[29:] for it in lines if it.startswith("  span of packets ")] == rows, lines)
+    judge("in JSON", json_of(sample)["channels"]["1"]["span"] == said)
+    run(INFO, "--html", work / "s.html", sample)
+    page = (work / "s.html").read_text()
+    judge("on the page", ("span of packets" in page) == bool(rows) and all(f"<td>{it}</td>" in page for it in rows))
+
+
+def test_a_version_has_the_words_of_which_its_filter_was_made(work: Path, sample: Path) -> None:
+    """As a text, in JSON and on the page; of a listing that no program of the channel has nothing is said."""
+    recording, facts = work / "w.ch11", facts_of_run(TAI_37[:1])
+    recording.write_bytes(sample.read_bytes())
+    listings = [it.listing for it in bpfrec.open(recording).filters]
+    facts["filters"] = [
+        {"channel": 2, "listing": listings[0], "expression": "another channel's"},
+        {"channel": 1, "listing": "1,6 0 0 77,", "expression": "another program's"},
+        {"channel": 1, "listing": listings[1], "expression": "udp port 53\nor arp"},
+    ]
+    put_beside(recording, facts)
+    lines = run(INFO, recording).splitlines()
+    rows = ["from frame 0, counter 16", "from frame 1, counter 32: udp port 53?or arp"]
+    judge("as a text", [it[29:] for it in lines if it.startswith("  version ")] == rows, lines)
+    versions = json_of(recording)["channels"]["1"]["versions"]
+    judge("in JSON", [it["words"] for it in versions] == [None, "udp port 53?or arp"], versions)
+    page = work / "w.html"
+    run(INFO, "--html", page, recording)
+    judge("on the page", "<h3>Version 1: udp port 53?or arp</h3>" in page.read_text())
 
 
 def test_the_page_says_that_times_are_utc(three: Path) -> None:
@@ -205,65 +235,10 @@ def test_the_page_says_that_times_are_utc(three: Path) -> None:
         "the page says that times are UTC",
         "Times are UTC, from the facts in x.ch11.json." in text
         and "<td>fc1??&lt;b&gt;</td>" in text
+        and "<h2>Channel 1: a&lt;b?</h2>" in text
         and "<td class=bad>1,120 dropped, 3 skipped</td>" in text
         and text.count("2025-12-01T11:00:00.2500033Z") == 2,
     )
-
-
-# ---- time scales
-
-
-def test_times_of_a_clock_that_ran_tai_are_utc(sample: Path) -> None:
-    """By the second origin, 37 s less than its clock had."""
-    put_beside(sample, facts_of_run(TAI_37))
-    told, time = run(INFO, sample), "2025-12-01T12:00:00.2500033Z"
-    rows = [
-        "origin                     2025-12-01T12:00:00.250000000Z from counter 0 on",
-        "origin                     2025-12-01T12:00:00.250000123Z from counter 17 on: the clock ran TAI, 37 s ahead",
-        f"  first time                 {time}",
-    ]
-    judge("the text has UTC, and says of TAI", all(it in told.splitlines() for it in rows), told)
-    found = json_of(sample)
-    scales = [(it["scale"], it["tai_offset"]) for it in found["facts"]["origins"]]
-    judge("the scales in JSON", scales == [("UTC", None), ("TAI", 37)], found)
-    judge("and UTC", found["channels"]["1"]["first_time"] == time, found)
-    page = sample.with_suffix(".html")
-    run(INFO, "--html", page, sample)
-    judge("the page has UTC", "Times are UTC, from" in page.read_text() and page.read_text().count(time) == 2)
-
-
-def test_a_scale_that_nobody_knows_is_said_where_a_time_is_shown(sample: Path) -> None:
-    """Nothing says that such a time is UTC."""
-    put_beside(sample, facts_of_run(UNKNOWN_SCALE))
-    told = run(INFO, sample)
-    rows = [
-        "origin                     2025-12-01T12:00:00.250000000 (scale unknown) from counter 0 on",
-        "  first time                 2025-12-01T12:00:00.2500032 (scale unknown)",
-        "  last time                  2025-12-01T12:00:00.2500032 (scale unknown)",
-    ]
-    judge("in the text", all(it in told.splitlines() for it in rows), told)
-    found = json_of(sample)
-    times = [found["channels"]["1"][it] for it in ("first_time", "last_time")]
-    judge("in JSON no UTC is known", times == [None] * 2 and found["facts"]["origins"][0]["scale"] is None, found)
-    page = sample.with_suffix(".html")
-    run(INFO, "--html", page, sample)
-    judge(
-        "on the page", page.read_text().count("(scale unknown)") == 3 and "Times are UTC, from" not in page.read_text()
-    )
-
-
-def test_a_damaged_place_has_its_time_without_a_scale(sample: Path) -> None:
-    put_beside(sample, facts_of_run(UNKNOWN_SCALE))
-    sample.write_bytes(sample.read_bytes()[:-1])
-    told = outcome(INFO, sample).stdout
-    judge("in the overview", "at 0.0000032 s, 2025-12-01T12:00:00.2500032 (scale unknown)\n" in told, told)
-
-
-def test_facts_of_before_scales_were_noted_are_utc(sample: Path) -> None:
-    """As they were, also of an adapter's clock."""
-    put_beside(sample, {**facts_of_run([("1764590400.250000000", 0, None)]), "clock": "adapter"})
-    found = json_of(sample)
-    judge("in UTC", found["channels"]["1"]["first_time"] == "2025-12-01T12:00:00.2500032Z", found)
 
 
 @pytest.mark.parametrize("encoding, host", [("utf-8", "m\u00fcnchen"), ("ascii", "m?nchen")], ids=["utf-8", "ascii"])
@@ -271,65 +246,6 @@ def test_a_hosts_name_is_shown_in_each_encoding(sample: Path, encoding: str, hos
     put_beside(sample, {**facts_of_run(THREE_ORIGINS), "host": "m\u00fcnchen"})
     told = run(INFO, sample, env={**os.environ, "PYTHONIOENCODING": encoding}, encoding=encoding)
     judge(f"a host's name in {encoding}", f"\nhost                       {host}\n" in told, told)
-
-
-def test_a_frame_before_the_first_origin_has_no_time(sample: Path) -> None:
-    put_beside(sample, facts_of_run([("1764590400.250000000", 33, None)]))
-    judge(
-        "a frame before the first origin has no time",
-        "\n  first time                 unknown\n" in run(INFO, sample)
-        and json_of(sample)["channels"]["1"]["first_time"] is None,
-    )
-
-
-def test_a_thousand_origins_are_told_one_by_one(sample: Path) -> None:
-    put_beside(sample, facts_of_run([(f"{1_764_590_400 + it}.000000000", it, None) for it in range(1_500)]))
-    told = run(INFO, sample)
-    judge(
-        "a thousand origins are told one by one",
-        told.count("\norigin ") == 1_001
-        and "\norigin                     and 500 more\nframes lost                none\n" in told,
-    )
-
-
-# ---- times
-
-
-def judge_times(path: Path, bare: dict, found: Recording, answer: Audit, origins: list, counters: list[int]) -> None:
-    """The times of channels, and of counters, by these origins."""
-    put_beside(path, facts_of_run(origins))
-    known = facts_beside(str(path))
-    told = as_json.object_of(found, answer[0], known)["channels"]
-    for name, moment in bare.items():
-        wanted = [time_by(origins, moment[f"{which}_counter"]) for which in ("first", "last")]
-        got = [told[int(name)]["first_time"], told[int(name)]["last_time"]]
-        judge_quietly(f"channel {name} of {origins}: {got}, {wanted}", got == wanted)
-    for counter in [*counters, *(it[1] + step for it in origins for step in (-1, 0, 1))]:
-        if 0 <= counter < 2**48:
-            judge_quietly(f"counter {counter} of {origins}", time_of(counter, known) == time_by(origins, counter))
-    judge_quietly("text and page", [*text_parts(found, answer, known), *page_parts("x", found, answer, known)])
-
-
-def test_times_by_drawn_origins_are_those_of_a_second_reading(work: Path) -> None:
-    """The times of three channels by drawn origins, and of drawn counters, beside those of bpfrec_tools."""
-    path, draw = recording_of_three(work), random.Random(SEED)
-    bare = facts_of(path)["channels"]
-    found, answer = read(str(path)), audit_of(str(path))
-    most = max(it["last_counter"] for it in bare.values())
-    for _ in range(200):
-        origins = drawn_origins(draw, most)
-        counters = [0, 2**48 - 1, *(draw.randrange(2**48) for _ in range(20))]
-        judge_times(path, bare, found, answer, origins, counters)
-    judge("times of drawn origins, and of drawn counters", True)
-
-
-def test_days_are_those_of_date() -> None:
-    """The days of bpfrec_tools beside those of `date`."""
-    draw = random.Random(SEED)
-    seconds = [draw.randrange(-(10**10), 10**11) for _ in range(20)]
-    given = "".join(f"@{it}\n" for it in seconds)
-    days = run("date", "-u", "-f", "-", "+%Y-%m-%dT%H:%M:%S", input=given).split()
-    judge("days of drawn seconds", days == [present(time_by([(f"{it}.000000000", 0, None)], 0))[:-9] for it in seconds])
 
 
 # ---- damage
@@ -382,7 +298,5 @@ def test_damaged_facts_are_taken_or_refused_as_formats_says(sample: Path) -> Non
     for turn in range(DAMAGED):
         origins: list = draw.choice([THREE_ORIGINS[:2], THREE_ORIGINS, BEFORE_1970, TAI_37, UNKNOWN_SCALE])
         refused += judge_damaged(turn, sample, damaged_facts(draw, facts_of_run(origins, [(1, 2, 3), (4, 5, 6)])))
-    judge(
-        f"{DAMAGED} damaged facts, of which {refused} are refused, and the rest of the answer stays",
-        DAMAGED // 4 < refused < DAMAGED * 9 // 10,
-    )
+    holds = DAMAGED // 4 < refused < DAMAGED * 9 // 10
+    judge(f"{DAMAGED} damaged facts, of which {refused} are refused, and the rest of the answer stays", holds)

@@ -104,12 +104,11 @@ def test_a_page_never_takes_the_place_of_the_facts(sample: Path) -> None:
     beside = Path(f"{sample}.json")
     beside.write_text(json.dumps(facts_of_run(THREE_ORIGINS)))
     done = outcome(INFO, "--html", beside, sample)
-    judge(
-        "a page never takes the place of the facts",
-        (done.returncode, done.stderr) == (3, f"file {beside}: it is RECORDING.json itself\n")
-        and are_facts(json.loads(beside.read_text())),
-        done,
-    )
+    holds = (done.returncode, done.stderr) == (
+        3,
+        f"bpfrec info: {beside}: it is RECORDING.json itself\n",
+    ) and are_facts(json.loads(beside.read_text()))
+    judge("a page never takes the place of the facts", holds, done)
 
 
 def test_wrong_facts_leave_the_status_of_the_recording(work: Path, sample: Path) -> None:
@@ -119,11 +118,3 @@ def test_wrong_facts_leave_the_status_of_the_recording(work: Path, sample: Path)
     done = outcome(INFO, damaged)
     told = f"bpfrec info: {work}/cut.ch11.json: no facts of a recording: facts isn't 1\n"
     judge("the status stays that of the recording", (done.returncode, done.stderr) == (1, told), done)
-
-
-def test_an_empty_file_is_said_to_be_empty(work: Path) -> None:
-    (work / "empty.ch11").write_bytes(b"")
-    done = outcome(INFO, "empty.ch11", cwd=work)
-    judge(
-        "a line says so", "bpfrec info: empty.ch11: it is empty: there is no packet" in done.stderr.splitlines(), done
-    )

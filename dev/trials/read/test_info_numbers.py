@@ -1,7 +1,5 @@
 """Tries every number that bpfrec info prints, as text, as JSON and on its page, on recordings that were drawn."""
 
-from __future__ import annotations
-
 import html
 import json
 import random
@@ -248,11 +246,8 @@ def judge_info(work: Path, made: DrawnRecording) -> None:
     judge_quietly(f"JSON: {different}", done.returncode == status and found == known, (found, known))
     done = outcome(INFO, recording, seconds=60)
     wanted = expected_text(made, known)
-    judge_quietly(
-        "the text",
-        done.returncode == status and done.stdout.splitlines() == wanted,
-        set(done.stdout.splitlines()) ^ set(wanted),
-    )
+    holds = done.returncode == status and done.stdout.splitlines() == wanted
+    judge_quietly("the text", holds, set(done.stdout.splitlines()) ^ set(wanted))
     judge_quietly("the page is made", outcome(INFO, "--html", page, recording, seconds=60).returncode == status)
     judge_page(page.read_text(), made, known)
 

@@ -1,7 +1,5 @@
 """Tries the marks of facts in what reads recordings: bpfrec info, and the captures of pcapng and follow, by tshark."""
 
-from __future__ import annotations
-
 import json
 import re
 from collections.abc import Callable
@@ -13,10 +11,9 @@ from bpfrec.formats.marks import marks_in
 from expected_facts import TAI_37, UNKNOWN_SCALE, facts_of_run
 from frames import FRAMES, body_of, end_packet, numbered, packet_of, program_packet, with_check_sequence
 from pcapng_blocks import COMMENT, SECTION, Block, blocks_in
-from support import EXPORT, INFO, TOOLS, judge, outcome, run
+from support import EXPORT, FOLLOW, INFO, judge, outcome, run
 
 WANTED = ("bin/bpfrec", "tshark", "capinfos")
-FOLLOW = TOOLS / "follow"
 ORIGIN = [("1764590400.000000000", 0, None, "UTC")]
 SECOND = 10**7
 

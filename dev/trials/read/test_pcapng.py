@@ -9,25 +9,18 @@ import shutil
 import subprocess
 from pathlib import Path
 
-import pytest
 from captures import fields_of
-from conversion.runs import Converted
 from expected_facts import BEFORE_1970, THREE_ORIGINS, facts_of_run
 from frames import FRAMES, body_of, end_packet, numbered, packet_of, program_packet, records, with_check_sequence
 from pcapng_blocks import COMMENT, INTERFACE, NAME, PACKET, Block, blocks_in
-from reading import SAMPLES, SEED, recording_of_three
+from reading import SAMPLES, SEED
 from recorder import RECORDINGS, extracted
 from rows import drawn_recording, flight_of
 from seen_frames import channels_of, feeds_of, judge_whole, made, seen_in
-from support import BPFREC, EXPORT, LIBRARY, judge, judge_quietly, outcome, pipe_at, run, shared_library
+from support import BPFREC, CAPTURE, EXPORT, judge, judge_quietly, outcome, pipe_at, run
 
-WANTED = ("bin/bpfrec", "tshark", "capinfos", "tcpdump", "cc")
+WANTED = ("bin/bpfrec", "bin/capture", "tshark", "capinfos", "tcpdump", "cc")
 DRAWN = 10
-
-
-@pytest.fixture(scope="module")
-def three(place: Path) -> Path:
-    return recording_of_three(place)
 
 
 # ---- whole recordings
@@ -46,7 +39,6 @@ def test_those_of_drawn_recordings_are_too(work: Path) -> None:
     for turn in range(DRAWN):
         (work / "drawn.ch11").write_bytes(drawn_recording(draw, turn % 2 == 0))
         judge_whole(work, work / "drawn.ch11")
-    judge(f"and of {DRAWN} drawn ones of both profiles", True)
 
 
 def test_frames_of_all_channels_stand_by_time(work: Path) -> None:
@@ -67,24 +59,16 @@ def test_programs_that_read_captures_take_it(work: Path, three: Path) -> None:
         ["reordercap", capture, work / "ordered.pcapng"],
     ):
         done = outcome(*words)
-        judge(
-            f"{words[0]}",
-            done.returncode == 0 and not re.search("error|warn|damaged", done.stderr, re.IGNORECASE),
-            done,
-        )
+        holds = done.returncode == 0 and not re.search("error|warn|damaged", done.stderr, re.IGNORECASE)
+        judge(f"{words[0]}", holds, done)
     told = run("capinfos", "-M", "-c", capture)
     judge("capinfos counts the frames", f"Number of packets:   {count}\n" in told, told)
     judge("mergecap's file has them twice", len(fields_of(work / "merged.pcapng")) == 2 * count)
-    judge(
-        "reordercap's and editcap's once",
-        {len(fields_of(work / f"{it}.pcapng")) for it in ("ordered", "edited")} == {count},
-    )
+    holds = {len(fields_of(work / f"{it}.pcapng")) for it in ("ordered", "edited")} == {count}
+    judge("reordercap's and editcap's once", holds)
     lines = outcome("tcpdump", "-nr", capture)
-    judge(
-        "tcpdump reads it",
-        lines.returncode == 0 and len(re.findall(r"^\d\d:", lines.stdout, re.MULTILINE)) == count,
-        lines,
-    )
+    holds = lines.returncode == 0 and len(re.findall(r"^\d\d:", lines.stdout, re.MULTILINE)) == count
+    judge("tcpdump reads it", holds, lines)
 
 
 def test_tshark_finds_wrong_those_that_are_marked(work: Path, three: Path) -> None:
@@ -107,23 +91,28 @@ def test_tshark_finds_wrong_those_that_are_marked(work: Path, three: Path) -> No
     judge(f"tshark finds {wrong} wrong check sequences", len(done.stdout.splitlines()) == wrong > 0)
 
 
-def test_a_second_opinion_reads_the_same_feed_of_it(work: Path, three: Path) -> None:
+def converted(work: Path, capture: Path) -> bytes:
+    """The feed that `capture -r` makes of a capture."""
+    run(CAPTURE, "--origin", "zero", "-r", f"{capture}={work}/back.feed")
+    return (work / "back.feed").read_bytes()
+
+
+def test_a_capture_of_it_is_the_same_feed(work: Path, three: Path) -> None:
     """With its marks."""
-    found = Converted(made(work, "--channel", 3, three), 0)
-    judge("the feed of a channel, marks and all", found.feed == extracted(three, 3, work / "3.feed"), found.said)
+    found = converted(work, made(work, "--channel", 3, three))
+    judge("the feed of a channel, marks and all", found == extracted(three, 3, work / "3.feed"))
     marked = [(at * 100, at % 4, with_check_sequence(numbered(at))) for at in range(8)]
     words = {0: 0, 1: 1 << 31, 2: 1 << 30, 3: 3 << 30}
     body = body_of([(at, words[it], frame) for at, it, frame in marked])
     (work / "marked.ch11").write_bytes(program_packet(1, 0) + packet_of(1, body, 0, FRAMES, 0, True))
-    found = Converted(made(work, work / "marked.ch11"), 0)
-    judge("all four marks", [it.marks for it in records(bytes(found.feed or b""))] == [it for _, it, _ in marked])
+    found = converted(work, made(work, work / "marked.ch11"))
+    judge("all four marks", [it.marks for it in records(found)] == [it for _, it, _ in marked])
 
 
 # ---- what the blocks say
 
 
 def test_interfaces_have_names_counts_and_filters(work: Path) -> None:
-    """Names, counts and filters."""
     recording = work / "changed.ch11"
     first, second = (6, 0, 0, 1), (6, 0, 0, 2)
     frame = with_check_sequence(numbered(0))
@@ -209,9 +198,8 @@ def test_counts_of_a_channel_stand_behind_the_longest_filter(work: Path) -> None
     path = work / "long.ch11"
     path.write_bytes(program_packet(1, 0, (4, 0, 0, 0xFFFF_FFFF), count=4_096) + end_packet(1, 7))
     comment = comments_in(blocks_in(made(work, path).read_bytes()))[0]
-    judge(
-        "as much of the text as there is room for", len(comment) == 65_535 and comment.startswith("filter version 0, ")
-    )
+    holds = len(comment) == 65_535 and comment.startswith("filter version 0, ")
+    judge("as much of the text as there is room for", holds)
     judge("and the counts", comment.endswith(" ..\nchannel 1: frames offered 7, kept 7"), comment[-80:])
 
 
@@ -230,14 +218,12 @@ def test_a_damaged_place_is_told_and_what_follows_is_there(work: Path) -> None:
         (work / "damaged.ch11").write_bytes(data)
         done = outcome(EXPORT, "--force", work / "damaged.ch11", work / "out.pcapng")
         wanted = f"bpfrec export: {work}/damaged.ch11: {told} {begin}: {len(whole[2])} bytes are left out\n"
-        judge(
-            f"a wrong {name}", (done.returncode, done.stdout, done.stderr) == (1, "frames 6 skipped 0\n", wanted), done
-        )
+        holds = (done.returncode, done.stdout, done.stderr) == (1, "frames 6 skipped 0\n", wanted)
+        judge(f"a wrong {name}", holds, done)
     (work / "damaged.ch11").write_bytes(b"".join(whole)[:-1])
     done = outcome(EXPORT, "--force", work / "damaged.ch11", work / "out.pcapng")
-    judge(
-        "cut", done.returncode == 1 and "read 1 Truncated" in done.stderr and done.stdout.startswith("frames 8 "), done
-    )
+    holds = done.returncode == 1 and "read 1 Truncated" in done.stderr and done.stdout.startswith("frames 8 ")
+    judge("cut", holds, done)
 
 
 def test_each_damaged_byte_ends_with_a_line_and_a_status(work: Path) -> None:
@@ -285,7 +271,7 @@ def test_what_cannot_be_made_is_refused(work: Path, three: Path) -> None:
     (work / "none.ch11.json").write_text("{}")
     os.mkfifo(work / "fifo")
     cases: list[tuple[list[object], int, str]] = [
-        ([work / "nowhere", out], 3, f"file {work}/nowhere: No such file or directory"),
+        ([work / "nowhere", out], 3, f"bpfrec export: {work}/nowhere: No such file or directory"),
         ([plain, known, out], 1, f"bpfrec export: {known} has facts beside it and {plain} has none"),
         ([work / "none.ch11", out], 1, f"bpfrec export: {work}/none.ch11.json: no facts of a recording: facts isn't 1"),
         (
@@ -294,20 +280,18 @@ def test_what_cannot_be_made_is_refused(work: Path, three: Path) -> None:
             "no facts beside it, so times are seconds since counter 0, as 12.5",
         ),
         (["--from", "noon", plain, out], 2, "noon is no time, as 12.5, 23:36:10 or 2025-12-01T12:00:00.25Z"),
+        (["--from", "10", "--to", "5", plain, out], 1, "--to isn't after --from"),
         (["--channel", "7", plain, out], 1, f"bpfrec export: {plain}: no channel 7"),
         (["--channel", "70000", plain, out], 2, "70000 is no channel ID"),
         ([work / "fifo", out], 1, f"bpfrec export: {work}/fifo: it is no regular file, of which parts could be read"),
         ([out], 2, "the following arguments are required"),
-        (["--as=pcapng", plain, "/dev/full"], 3, "file /dev/full: No space left on device"),
+        (["--as=pcapng", plain, "/dev/full"], 3, "bpfrec export: /dev/full: No space left on device"),
         (["--as=pcapng", plain, work / "no/where"], 3, "No such file or directory"),
     ]
     for words, status, told in cases:
         done = outcome(EXPORT, *words)
-        judge(
-            f"refused: {told}",
-            done.returncode == status and told in done.stderr and "Traceback" not in done.stderr,
-            done,
-        )
+        holds = done.returncode == status and told in done.stderr and "Traceback" not in done.stderr
+        judge(f"refused: {told}", holds, done)
         judge_quietly("nothing is made", not out.exists())
 
 
@@ -320,16 +304,5 @@ def test_a_time_before_1970_and_a_full_standard_output_are_refused(work: Path) -
     judge("a time before 1970", done.returncode == 1 and "is before the times of a capture" in done.stderr, done)
     with open("/dev/full", "w") as full:
         done = outcome(EXPORT, "--force", plain, out, stdout=full, stderr=subprocess.PIPE)
-    judge(
-        "standard output that is full", (done.returncode, done.stderr) == (3, "file -: No space left on device\n"), done
-    )
-
-
-def test_out_and_its_folder_are_forced_before_the_answer(work: Path) -> None:
-    """A new OUT and its folder are on their disk before the answer; where that fails there is none."""
-    library = shared_library(LIBRARY / "told_fsync.c", work / "fsync.so")
-    env = {**os.environ, "LD_PRELOAD": str(library)}
-    done = outcome("python3", EXPORT, SAMPLES[1], work / "a.pcapng", env=env)
-    judge("forced, then answered", done.stdout == "fsync\nfsync\nframes 1 skipped 0\n", done)
-    done = outcome("python3", EXPORT, SAMPLES[1], work / "b.pcapng", env={**env, "FSYNC_FAILS": "5"})
-    judge("no answer where that fails", (done.returncode, done.stdout) == (3, "fsync\n"), done)
+    holds = (done.returncode, done.stderr) == (3, "bpfrec export: -: No space left on device\n")
+    judge("standard output that is full", holds, done)

@@ -8,17 +8,12 @@ from pathlib import Path
 import pytest
 from expected_facts import TAI_37, THREE_ORIGINS, UNKNOWN_SCALE, facts_of_run, moments_by
 from frames import FRAMES, body_of, end_packet, numbered, packet_of, program_packet, with_check_sequence
-from reading import SEED, recording_of_three
+from reading import SEED
 from seen_frames import SECOND, Seen, feeds_of, judge_whole, made, seen_in
 from support import EXPORT, judge, judge_quietly, outcome, run
 
 WANTED = ("bin/bpfrec", "tshark", "capinfos")
 SLICES = 12
-
-
-@pytest.fixture(scope="module")
-def three(place: Path) -> Path:
-    return recording_of_three(place)
 
 
 @pytest.mark.parametrize(
@@ -32,7 +27,6 @@ def test_times_are_those_of_the_facts(work: Path, three: Path, origins: list) ->
     shutil.copy(three, recording)
     Path(f"{recording}.json").write_text(json.dumps(facts_of_run(origins)))
     judge_whole(work, recording, lambda counter: moments_by(origins, [counter])[0])
-    judge("as facts say", True)
 
 
 def in_seconds(moment: int) -> str:
@@ -46,6 +40,16 @@ def utc(moment: int) -> str:
 
 def of_day(moment: int) -> str:
     return utc(moment)[11:-1]
+
+
+def test_a_slice_of_a_whole_file_is_that_of_its_recording(work: Path, three: Path) -> None:
+    recording, words = work / "x.ch11", ("--from", "2025-12-01T12:00:00.3Z", "--channel", "2")
+    shutil.copy(three, recording)
+    Path(f"{recording}.json").write_text(json.dumps(facts_of_run([("1764590400.250000000", 0, None)])))
+    run(EXPORT, recording, work / "x.ch10")
+    first, second = (seen_in(made(work, *words, it)) for it in (recording, work / "x.ch10"))
+    everything = seen_in(made(work, "--channel", "2", recording))
+    judge("the same frames, and not all", first == second and 0 < len(first) < len(everything), (first[:2], second[:2]))
 
 
 def test_a_slice_has_the_frames_of_its_times_and_channels(work: Path, three: Path) -> None:
@@ -76,10 +80,8 @@ def test_a_slice_has_the_frames_of_its_times_and_channels(work: Path, three: Pat
             for it in feeds[channel]
             if begin <= moment_of(it.counter) < end
         ]
-        judge_quietly(
-            f"slice {turn}: {begin} to {end} of {chosen}", sorted(seen) == sorted(wanted), (len(seen), len(wanted))
-        )
-    judge(f"{SLICES} slices", True)
+        holds = sorted(seen) == sorted(wanted)
+        judge_quietly(f"slice {turn}: {begin} to {end} of {chosen}", holds, (len(seen), len(wanted)))
 
 
 def frames_at(path: Path, counters: list[int], origins: list) -> Path:
@@ -159,9 +161,8 @@ def test_of_packets_outside_a_slice_the_headers_alone_are_read(work: Path) -> No
     damaged = [it if at in (199, 200) else it[:100] + bytes(4) + it[104:] for at, it in enumerate(parts)]
     path.write_bytes(program_packet(1, 0) + b"".join(damaged) + end_packet(1, 30_000))
     done = outcome(EXPORT, "--from", "0.02", "--to", "0.0201", path, work / "slice.pcapng")
-    judge(
-        "a slice of one packet", (done.returncode, done.stdout, done.stderr) == (0, "frames 60 skipped 0\n", ""), done
-    )
+    holds = (done.returncode, done.stdout, done.stderr) == (0, "frames 60 skipped 0\n", "")
+    judge("a slice of one packet", holds, done)
 
 
 def test_several_recordings_become_one_capture(work: Path) -> None:

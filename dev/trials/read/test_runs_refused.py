@@ -9,7 +9,7 @@ from joined_file import Table
 from packets import packets_in
 from run_recordings import MOMENT, end, frames, one, program, run_at
 from support import judge
-from whole_file_trials import chapter11, judge_joined, seconds_of, text_of
+from whole_file_trials import judge_joined, seconds_of
 
 WANTED = ("bin/bpfrec",)
 LAST_COUNTER, LAST_VERSION, LAST_NUMBER = 2**48 - 1, 2**32 - 1, 2**64 - 1
@@ -126,35 +126,3 @@ def test_gaps_and_sums_by_their_places(work: Path) -> None:
     both = {"recording": [origin, {**later, "after": 0}]}
     found = judge_joined(work, "of one packet", [over, program("b", counter=LAST_COUNTER) + frames(5) + end(1)], both)
     judge("of one packet the gap", found == "refused 3 Gap 0 1", found)
-
-
-# ---- SETUP
-
-ZERO = 'origin = "0"'
-FAULTS = {
-    f"{ZERO}, after = 1": "4 Value after",
-    f"{ZERO}, after = 2": "4 Value after",
-    f"{ZERO}, after = -1": "4 Value after",
-    f"{ZERO}, after = 1.0": "4 Value after",
-    f'{ZERO}, after = "0"': "4 Value after",
-    f"{ZERO}, after = [0]": "4 Value after",
-    "after = 7": "3 Missing origin",
-    f"{ZERO}, after = 7, channel = 5": "4 Value after",
-    f"{ZERO}, after = 0, channel = 5": "4 Value channel",
-    f"{ZERO}, after = 0, behind = 0": "2 Unknown behind",
-}
-
-
-@pytest.mark.parametrize("table", FAULTS)
-def test_faults_of_what_follows(work: Path, table: str) -> None:
-    done = chapter11(work, [OTHER, OTHER], f"recording = [{{ {ZERO} }}, {{ {table} }}]")
-    judge(table, (done.returncode, done.stderr) == (2, f"setup {FAULTS[table]}\n"), done)
-
-
-def test_a_recording_that_two_follow_is_a_fault(work: Path) -> None:
-    for after in ((0, 0), (1, 0)):
-        tables = [{"origin": "0"}, *({"origin": "0", "after": it} for it in after)]
-        done = chapter11(work, [OTHER] * 3, text_of({"recording": tables}))
-        judge(f"{after}", (done.returncode, done.stderr) == (2, "setup 4 Value after\n"), done)
-    done = chapter11(work, [OTHER], text_of({"recording": [{"origin": "0", "after": 0}]}))
-    judge("nor does one alone", (done.returncode, done.stderr) == (2, "setup 4 Value after\n"), done)

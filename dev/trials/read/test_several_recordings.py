@@ -119,7 +119,6 @@ def test_one_recording_with_a_table_of_its_own_and_without(work: Path) -> None:
             for it in ({**setup, "recording": [table]}, {**setup, **table})
         ]
         judge_quietly(f"{seed}: both", lines[0].startswith(lines[1]), lines)
-    judge("40 of them", True)
 
 
 def test_campaigns_whose_clocks_are_set_far(work: Path) -> None:
@@ -296,36 +295,12 @@ def test_reading_comes_before_what_is_refused(work: Path) -> None:
 
 ZERO = 'origin = "0"'
 TWO = f"recording = [{{ {ZERO} }}, {{ {ZERO} }}]"
+# One of each kind; crates/test_program/src/setup_file.rt has all.
 FAULTS = {
     "": "3 Missing recording",
-    ZERO: "3 Missing recording",
     "a": "1 Syntax",
-    "recording = []": "4 Value recording",
-    "recording = 5": "4 Value recording",
-    f"recording = [{{ {ZERO} }}]": "4 Value recording",
-    f"recording = [{{ {ZERO} }}, {{ {ZERO} }}, {{ {ZERO} }}]": "4 Value recording",
-    f"recording = [{{ }}, {{ {ZERO} }}, {{ {ZERO} }}]": "4 Value recording",
-    f"{ZERO}\n{TWO}": "4 Value recording",
-    f"{TWO}\norigins = []": "4 Value recording",
-    f"{TWO}\nchannel = []": "4 Value recording",
-    f"{TWO}\nhost = 5": "4 Value host",
-    f"host = 5\nrecording = [{{ }}, {{ {ZERO} }}]": "3 Missing origin",
-    f"recording = [{{ {ZERO} }}, {{ }}]": "3 Missing origin",
     f"recording = [{{ {ZERO} }}, {{ {ZERO}, at = 1, to = 2 }}]": "2 Unknown at",
-    f"recording = [{{ {ZERO} }}, {{ {ZERO}, origins = [] }}]": "4 Value origins",
-    f"recording = [{{ {ZERO} }}, {{ origins = [] }}]": "4 Value origins",
-    f"recording = [{{ {ZERO} }}, {{ {ZERO}, channel = [{{ id = 0 }}] }}]": "4 Value id",
-    f"recording = [{{ {ZERO} }}, {{ {ZERO}, after = 1 }}]": "4 Value after",
     f"recording = [{{ {ZERO}, after = 0 }}, {{ {ZERO} }}]": "4 Value after",
-    f'scale = "unknown"\n{TWO}': "4 Value scale",
-    f'scale = "GPS"\n{TWO}': "4 Value scale",
-    f"tai_offset = 37\n{TWO}": "4 Value tai_offset",
-    f'scale = "UTC"\ntai_offset = 37\n{TWO}': "4 Value tai_offset",
-    f'scale = "TAI"\n{TWO}': "3 Missing tai_offset",
-    f'scale = "TAI"\ntai_offset = 256\n{TWO}': "4 Value tai_offset",
-    f'recording = [{{ {ZERO} }}, {{ origins = [{{ counter = 0, {ZERO}, scale = "unknown" }}] }}]': "4 Value scale",
-    f'recording = [{{ {ZERO} }}, {{ origins = [{{ counter = 0, {ZERO}, scale = "TAI" }}] }}]': "3 Missing tai_offset",
-    f"recording = [{{ {ZERO} }}, {{ origins = [{{ counter = 0, {ZERO}, tai_offset = 0 }}] }}]": "4 Value tai_offset",
 }
 
 
@@ -333,7 +308,6 @@ def test_faults_of_setup(work: Path) -> None:
     for setup, fault in FAULTS.items():
         found = said(work, [ONE, OTHER], setup)
         judge_quietly(setup, found == (2, f"setup {fault}\n"), (found, fault))
-    judge(f"{len(FAULTS)} faults", True)
 
 
 def judge_named(work: Path, *rows: tuple[list[Path], Path]) -> None:

@@ -1,7 +1,5 @@
 """Tries each command with each form of its input and of its OUT, which answer alike, and with streams that fail."""
 
-from __future__ import annotations
-
 import os
 import subprocess
 import threading

@@ -249,9 +249,8 @@ def test_the_longest_packet_is_simulated_as_recorded(work: Path) -> None:
     told = run(BPFREC, "simulate", work / "script").splitlines()
     wrote = [bytes.fromhex(it[6:]) for it in told if it.startswith("wrote ")]
     judge("its packets are those of record", b"".join(wrote) == (work / "long.ch11").read_bytes())
-    judge(
-        "of these lengths", [len(it) for it in wrote] == [64, 524_288, 8 * 16_396 + 32, 56], [len(it) for it in wrote]
-    )
+    holds = [len(it) for it in wrote] == [64, 524_288, 8 * 16_396 + 32, 56]
+    judge("of these lengths", holds, [len(it) for it in wrote])
 
 
 @pytest.mark.parametrize("lines", [999, 1_000, 70_000])

@@ -80,7 +80,6 @@ def test_a_recording_that_is_killed_is_its_beginning(work: Path, whole: Whole, p
         for channel, want in zip((1, 2), whole.feeds):
             got = extracted(cut, channel, work / "cut.feed")
             judge_quietly("a beginning of the channel's frames", want.startswith(got))
-    judge(f"{KILLS // PARTS} kills, of which {truncated} cut a packet", True)
 
 
 # ---- sums
@@ -100,7 +99,6 @@ def test_each_sum_is_right_and_finds_each_changed_byte(work: Path, feed: Path) -
         changed.write_bytes(recording[:at] + bytes([recording[at] ^ value]) + recording[at + 1 :])
         told = sums(changed)
         judge_quietly(f"byte {at} is changed by {value}", told.returncode == 1 and not told.stderr, told)
-    judge(f"and each of {CHANGES} changed bytes is found", True)
 
 
 # ---- a recording that changes meanwhile

@@ -1,6 +1,7 @@
 """Tries the order of what commands do to files, call by call, by a library that is preloaded
 (dev/trials/lib/seen_calls.c)."""
 
+import errno
 import os
 import re
 import subprocess
@@ -12,14 +13,14 @@ import pytest
 from disks import memory_disk
 from frames import counted_feed
 from recorder import RECORD_LENGTH, RECORDINGS, begin, make_feed, record, write_settings
-from support import BPFREC, EXPORT, SALVAGE, judge, judge_quietly, outcome, present
+from support import BPFREC, EXPORT, LIBRARY, SALVAGE, judge, judge_quietly, outcome, present, shared_library
 
 WANTED = ("bin/bpfrec", "cc")
 SAMPLE = RECORDINGS / "two_versions.ch11"
 FRAMES = 100
 # Those that lock OUT, and those that do not.
 LOCKING = ("record", "extract", "upgrade", "extract_of_input", "upgrade_of_input", "chapter11")
-TOOLS = ("salvage", "pcapng")
+TOOLS = {"salvage": "salvage", "pcapng": "export"}  # each with its verb, which begins its messages
 # How a file is opened that is written and not emptied, and how it is locked: alone, and without waiting.
 TO_WRITE, AT_ONCE = 1, 6
 # Stands for OUT among the words of a command.
@@ -58,6 +59,7 @@ def commands(work: Path) -> dict[str, Command]:
         "extract_of_input": Command([BPFREC, "extract", "-", "1", OUT], SAMPLE),
         "upgrade_of_input": Command([BPFREC, "upgrade", "-", OUT], SAMPLE),
         "chapter11": Command([BPFREC, "chapter11", SAMPLE, work / "setup.toml", OUT]),
+        "export": Command([BPFREC, "export", SAMPLE, OUT]),
         "salvage": Command([SALVAGE, "--force", SAMPLE, OUT]),
         "pcapng": Command([EXPORT, "--as=pcapng", "--force", SAMPLE, OUT]),
     }
@@ -65,7 +67,6 @@ def commands(work: Path) -> dict[str, Command]:
 
 @pytest.mark.parametrize("name", [*LOCKING, *TOOLS])
 def test_of_an_out_that_was_longer_nothing_is_left(work: Path, name: str) -> None:
-    """Of an OUT that was longer nothing is left."""
     command, out = commands(work)[name], work / "out"
     judge_quietly("it writes", command.into(out).returncode == 0)
     made = out.read_bytes()
@@ -101,9 +102,8 @@ def test_out_is_forced_to_its_disk_before_the_report(work: Path, seen_calls: Pat
     judge(f"{name}: opened, locked, emptied, written", calls[:many] == begin and 0 < writes, calls)
     judge("all before it is forced, and printed then", told[0] == Call("force", str(out), 0), told)
     judge("nothing but that", told[1:] and all(it.what == "write" and it.file == "1" for it in told[1:]), told)
-    judge(
-        "each byte was written once", sum(it.number for it in calls[many : many + writes]) == out.stat().st_size, calls
-    )
+    holds = sum(it.number for it in calls[many : many + writes]) == out.stat().st_size
+    judge("each byte was written once", holds, calls)
 
 
 @pytest.mark.parametrize("is_there", [False, True], ids=["new", "there"])
@@ -121,6 +121,36 @@ def test_tools_force_out_to_its_disk_before_the_report(work: Path, seen_calls: P
     judge(f"{name} forces OUT", forced == [str(out.parent)] * (not is_there) + [str(out)], calls)
     judge("behind its last byte, and before it prints", written < calls.index(Call("force", str(out), 0)), calls)
     judge("before it prints", last < printed, calls)
+
+
+@pytest.fixture(scope="module")
+def failing_force(place: Path) -> Path:
+    """The library of dev/trials/lib/failing_force.c."""
+    return shared_library(LIBRARY / "failing_force.c", place / "failing_force.so")
+
+
+def unforced(command: Command, out: Path, library: Path, error: int) -> tuple[int, str, str]:
+    """The status of a command and what it prints, where neither OUT nor its folder can be forced to their disk."""
+    failing = {"UNFORCED_BY": "fsync", "UNFORCED_FROM": 1, "UNFORCED_COUNT": 9, "UNFORCED_ERROR": error}
+    done = command.into(out, LD_PRELOAD=library, **failing)
+    return done.returncode, done.stdout, done.stderr
+
+
+@pytest.mark.parametrize("name", [*LOCKING, "export", *TOOLS])
+def test_where_out_or_its_folder_can_not_be_forced_nothing_is_printed(
+    work: Path, failing_force: Path, name: str
+) -> None:
+    """The folder of a new one, which is there then; but what has no disk (EINVAL) is no fault."""
+    command, out = commands(work)[name], work / "folder.ch11/out.ch11"
+    begins = f"bpfrec {TOOLS[name]}: {out}: " if name in TOOLS else f"file {out}"
+    out.parent.mkdir()
+    for error in (errno.EIO, errno.EIO, errno.ENOSPC):
+        status, printed, told = unforced(command, out, failing_force, error)
+        is_refused = (status, printed) == (3, "") and told.startswith(begins) and out.exists()
+        judge(f"{name}: {errno.errorcode[error]}", is_refused, (status, printed, told))
+    wanted = command.into(out).stdout
+    found = unforced(command, out, failing_force, errno.EINVAL)
+    judge(f"{name}: EINVAL", found == (0, wanted, ""), found)
 
 
 # ---- an OUT that is another file by then

@@ -1,9 +1,6 @@
 """Records once at full size by the commands (dev/trials/lib/full_size.py), and reads it by each command and tool. At both limits
 of packets."""
 
-from __future__ import annotations
-
-import json
 import subprocess
 from pathlib import Path
 from typing import NamedTuple
@@ -22,7 +19,7 @@ from full_size import (
     write_all,
 )
 from recorder import begin
-from support import BPFREC, EXPORT, INFO, SALVAGE, judge, judge_quietly, present, run, sums
+from support import BPFREC, judge, judge_quietly, present, run
 
 WANTED = ("bin/bpfrec",)
 
@@ -72,24 +69,3 @@ def test_at_full_size_each_channel_is_extracted(work: Path, made: Made) -> None:
     for channel, feed in made.feeds.items():
         run(BPFREC, "extract", made.out, channel, work / "again.feed", seconds=PATIENCE)
         judge_quietly(f"channel {channel} is extracted", (work / "again.feed").read_bytes() == feed)
-    judge("all channels are extracted", True)
-
-
-def test_at_full_size_upgrade_and_salvage_copy_each_byte(work: Path, made: Made) -> None:
-    packets = int(run(BPFREC, "list", made.out).splitlines()[-1].split()[1])
-    told = run(BPFREC, "upgrade", made.out, work / "new.ch11", seconds=PATIENCE)
-    judge("upgrade", told == f"upgraded 0 copied {packets}\n", told)
-    judge("copies each byte", (work / "new.ch11").read_bytes() == made.out.read_bytes())
-    run(SALVAGE, made.out, work / "saved.ch11", seconds=PATIENCE)
-    judge("so does salvage", (work / "saved.ch11").read_bytes() == made.out.read_bytes())
-    told = sums(made.out, seconds=PATIENCE).stdout
-    judge("its sums", told == f"packets {packets} data checksums {packets} without 0 wrong 0\n", told)
-
-
-def test_at_full_size_the_tools_have_all(work: Path, made: Made) -> None:
-    known = json.loads(run(INFO, "--json", made.out, seconds=PATIENCE))["channels"]
-    wanted = {str(channel): frames_in(feed) for channel, feed in made.feeds.items()}
-    judge("info", {name: it["frames"] for name, it in known.items()} == wanted, known)
-    judge("info has all versions", known[str(CHANGED)]["version_count"] == VERSIONS)
-    told = run(EXPORT, made.out, work / "all.pcapng", seconds=PATIENCE)
-    judge("pcapng", told == f"frames {sum(wanted.values())} skipped 0\n", told)

@@ -70,14 +70,11 @@ def atomic_steps(work: Path, program: Path, count: int, listing: str, changes: i
 
 @pytest.mark.parametrize("listing", [DROPS_ALL, KEEPS_ALL], ids=["dropped", "kept"])
 def test_a_further_frame_takes_its_channels_lock_once(work: Path, listing: str) -> None:
-    """A further frame takes its channel's lock once."""
     program = BPFREC.resolve()
     few, many = (atomic_steps(work, program, it, listing) for it in (SHORT, LONG))
     wanted, more = A_FRAME * (LONG - SHORT), many - few
-    judge(
-        f"{LONG - SHORT} frames: {more} atomic steps; a lock a frame takes {wanted}",
-        0.9 * wanted <= more <= 1.1 * wanted,
-    )
+    holds = 0.9 * wanted <= more <= 1.1 * wanted
+    judge(f"{LONG - SHORT} frames: {more} atomic steps; a lock a frame takes {wanted}", holds)
 
 
 def test_a_further_change_takes_its_channels_lock_once(work: Path) -> None:

@@ -25,7 +25,6 @@ def peak_of(settings: Path, out: Path) -> int:
 
 
 def test_memory_does_not_grow_with_the_feed(work: Path, long_feed: Path) -> None:
-    """It does not grow with the feed."""
     feeds = [make_feed(work / "part.feed", MANY // 5), long_feed]
     peaks = [peak_of(write_settings(work, [feed], ["all"]), work / "memory.ch11") for feed in feeds]
     print(f"peak memory in KiB: {peaks[0]} at {MANY // 5:,} frames, {peaks[1]} at {MANY:,}")
@@ -59,11 +58,8 @@ def test_extract_takes_little_memory(work: Path, whole: Path, long_feed: Path) -
 def test_export_takes_little_memory(work: Path, whole: Path) -> None:
     done = read_within("export", whole, work / "read.pcapng")
     size = (work / "read.pcapng").stat().st_size
-    judge(
-        "it is exported",
-        done.returncode == 0 and size == SECTION_LENGTH + DESCRIPTION_LENGTH + MANY * FRAME_LENGTH,
-        size,
-    )
+    holds = done.returncode == 0 and size == SECTION_LENGTH + DESCRIPTION_LENGTH + MANY * FRAME_LENGTH
+    judge("it is exported", holds, size)
 
 
 def without_checksums(recording: bytes) -> bytes:
@@ -78,11 +74,8 @@ def test_upgrade_takes_little_memory(work: Path, whole: Path) -> None:
     old, new = work / "old.ch11", work / "new.ch11"
     old.write_bytes(without_checksums(whole.read_bytes()))
     done, same = read_within("upgrade", old, new), whole.read_bytes()
-    judge(
-        "it is upgraded from what it was without data checksums",
-        done.returncode == 0 and new.read_bytes() == same,
-        done,
-    )
+    holds = done.returncode == 0 and new.read_bytes() == same
+    judge("it is upgraded from what it was without data checksums", holds, done)
     done = read_within("upgrade", new, old)
     judge("and copied by a second upgrade", done.stdout.startswith("upgraded 0 ") and old.read_bytes() == same, done)
 

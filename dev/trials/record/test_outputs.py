@@ -1,9 +1,7 @@
 """Tries the OUT of `record`, `extract` and `upgrade`: full and failing disks, names of an input, and standard
 streams."""
 
-import errno
 import os
-import re
 import resource
 import signal
 import subprocess
@@ -11,14 +9,12 @@ from collections.abc import Callable
 from pathlib import Path
 
 import pytest
-from exports import wanted_of
-from recorder import ONE_FRAME, RECORDINGS, make_feed, record, write_settings
-from support import BPFREC, LIBRARY, judge, judge_quietly, outcome, present, shared_library
+from recorder import RECORDINGS, make_feed, record, write_settings
+from support import BPFREC, judge, outcome
 
 WANTED = ("bin/bpfrec", "cc")
 pytestmark = pytest.mark.timed
 FRAMES = 100
-REPORT = f"channel 1 versions 1 offered {FRAMES} kept {FRAMES} SourceEnd\n"
 
 # ---- full disks
 
@@ -78,86 +74,11 @@ def test_faults_of_recording_and_out_have_their_order(work: Path, what: str) -> 
 
 
 def test_an_out_that_is_the_recording_goes_before_its_fault(work: Path) -> None:
-    """An OUT that is the recording goes before its fault."""
     damaged, own = (RECORDINGS / "cut_to_210.ch11").read_bytes(), work / "own_damaged.ch11"
     own.write_bytes(damaged)
     for name, told in runs_into(own, own):
         refused = told == (3, "", f"file {own}\n") and own.read_bytes() == damaged
         judge(f"{name} of a damaged recording into itself is refused before it is read", refused, told)
-
-
-# ---- what is on the disk
-
-
-@pytest.fixture(scope="module")
-def failing_fsync(place: Path) -> Path:
-    """The library of dev/trials/lib/failing_fsync.c."""
-    return shared_library(LIBRARY / "failing_fsync.c", place / "failing_fsync.so")
-
-
-def forced_by(words: list, given: Path, library: Path, error: int) -> tuple:
-    """A run whose forcing of files to their disks fails with an error, unless that is 0: its status, what it
-    printed and told, and the lines of dev/trials/lib/failing_fsync.c."""
-    forced, printed = library.with_name("forced.lines"), library.with_name("forced.printed")
-    forced.write_text("")
-    env = {"LD_PRELOAD": str(library), "FORCED": str(forced)} | ({"FORCED_ERROR": str(error)} if error else {})
-    with open(given, "rb") as given_bytes, open(printed, "wb") as output:
-        done = outcome(BPFREC, *words, stdin=given_bytes, stdout=output, stderr=subprocess.PIPE, env=env)
-    return done.returncode, printed.read_text(), done.stderr, forced.read_text()
-
-
-def forced_run(work: Path, command: str, given: Path) -> tuple[list, str, bytes]:
-    """A command without its OUT, the line that it prints, and what it makes."""
-    file = "-" if given != Path("/dev/null") else RECORDINGS / "two_versions.ch11"
-    if command == "extract":
-        return ["extract", file, "1"], "frames 1 passed 0\n", ONE_FRAME
-    if command == "upgrade":
-        made = (RECORDINGS / "two_versions_checked.ch11").read_bytes()
-        return ["upgrade", file], "upgraded 4 copied 0\n", made
-    if command == "export":
-        return ["export", file], "", wanted_of((RECORDINGS / "two_versions.ch11").read_bytes()).bytes
-    settings, plain = write_settings(work, [make_feed(work / "forced.feed", FRAMES)], ["all"]), work / "forced.plain"
-    report = record(settings, plain).stdout
-    return ["record", settings], report, plain.read_bytes()
-
-
-@pytest.mark.parametrize(
-    "command, from_input",
-    [("record", False), *((it, is_input) for is_input in (False, True) for it in ("extract", "export", "upgrade"))],
-    ids=["record", *(it + end for end in ("", "_of_input") for it in ("extract", "export", "upgrade"))],
-)
-def test_what_was_made_is_on_its_disk_before_the_answer(
-    work: Path, failing_fsync: Path, command: str, from_input: bool
-) -> None:
-    """What a command made is forced to its disk before it prints, and of a new OUT its folder; where that fails it
-    prints nothing else."""
-    given, out = RECORDINGS / "two_versions.ch11" if from_input else Path("/dev/null"), work / "forced.out"
-    words, line, made = forced_run(work, command, given)
-    # the whole of OUT, and nothing is printed yet
-    forced = f"{len(made)} 0 {out}\n"
-    told = forced_by([*words, out], given, failing_fsync, errno.EIO)
-    of_folder = rf"\d+ 0 {work}\n"
-    judge(
-        "where the folder of a new OUT can't be forced, nothing is printed",
-        told[:3] == (3, "", f"file {out}\n") and re.fullmatch(of_folder, told[3]),
-        told,
-    )
-    out.unlink()
-    told = forced_by([*words, out], given, failing_fsync, 0)
-    judge(
-        f"{command} forces OUT to its disk before it prints, and its folder",
-        told[:3] == (0, line, "") and re.fullmatch(of_folder + re.escape(forced), told[3]) and out.read_bytes() == made,
-        told,
-    )
-    for error in [errno.EIO, errno.ENOSPC]:
-        told = forced_by([*words, out], given, failing_fsync, error)
-        judge(
-            f"and prints nothing else where that fails ({errno.errorcode[error]})",
-            told == (3, "", f"file {out}\n", forced),
-            told,
-        )
-    told = forced_by([*words, out], given, failing_fsync, errno.EINVAL)
-    judge("but goes on where OUT has no disk (EINVAL)", told == (0, line, "", forced), told)
 
 
 # ---- an OUT that is an input
@@ -182,21 +103,6 @@ def test_an_out_that_is_an_input_is_refused_and_kept(work: Path, own: Path, name
         judge(f"OUT {other} is refused", refused and (work / name).read_bytes() == before, told)
     (work / "elsewhere").mkdir()
     judge(f"OUT elsewhere/{name} is written", record(own, f"elsewhere/{name}", cwd=work).returncode == 0)
-
-
-def test_an_out_may_be_a_file_a_device_a_pipe_or_a_stream(work: Path, own: Path) -> None:
-    """A new file, a device, a pipe, and standard output with the report after the recording."""
-    judge("a new OUT", record(own, "new.ch11", cwd=work).returncode == 0)
-    whole = (work / "new.ch11").read_bytes()
-    wanted = f"{REPORT}wrote 3 {len(whole)}\n"
-    done = record(own, "/dev/null", cwd=work)
-    judge("OUT /dev/null, for a trial of filters", (done.returncode, done.stdout) == (0, wanted), done)
-    os.mkfifo(work / "out.pipe")
-    with subprocess.Popen(["cat", str(work / "out.pipe")], stdout=subprocess.PIPE) as cat:
-        done = record(own, "out.pipe", cwd=work)
-        judge("OUT a pipe", (done.returncode, done.stdout, present(cat.stdout).read()) == (0, wanted, whole), done)
-    done = record(own, "/dev/stdout", text=False)
-    judge("OUT /dev/stdout", (done.returncode, done.stdout) == (0, whole + wanted.encode()), done.returncode)
 
 
 @pytest.mark.parametrize(
@@ -261,26 +167,13 @@ def test_standard_output_is_not_the_recording_that_is_read(work: Path, command: 
     judge(f"{words} {streams}", is_refused and own.read_bytes() == before and not (work / "other").exists(), done)
 
 
-def test_out_of_extract_is_stream(work: Path, own: Path) -> None:
-    judge_quietly("it records", record(own, work / "new.ch11").returncode == 0)
-    recording = (work / "new.ch11").read_bytes()
-    with open(work / "new.ch11", "rb") as given:
-        told = outcome(BPFREC, "extract", "-", "1", "new.ch11", stdin=given, cwd=work)
-    judge(
-        "OUT that is a standard stream's file is refused",
-        told.returncode == 3 and (work / "new.ch11").read_bytes() == recording,
-        told,
-    )
-
-
 def test_an_out_that_is_the_pipe_of_a_channel_is_refused(work: Path, own: Path) -> None:
     os.mkfifo(work / "own.pipe")
     piped = write_settings(work, ["own.pipe"], ["all"], "own_pipe.toml")
     with subprocess.Popen(["sh", "-c", f"cat {work / 'own.feed'} > {work / 'own.pipe'}"]):
         told = record(piped, "own.pipe", cwd=work)
-    judge(
-        "OUT that is the pipe of a channel is refused", (told.returncode, told.stderr) == (3, "file own.pipe\n"), told
-    )
+    holds = (told.returncode, told.stderr) == (3, "file own.pipe\n")
+    judge("OUT that is the pipe of a channel is refused", holds, told)
 
 
 @pytest.mark.parametrize("link", [os.symlink, os.link], ids=["symlink", "link"])

@@ -148,10 +148,8 @@ def test_each_answer_is_one_write(work: Path, short_feed: Path) -> None:
     """Each answer is one write: a reader by packets and one byte by byte both find whole lines."""
     settings = write_settings(work, [short_feed], ["all"])
     packets = answers_read(work, settings, os.O_DIRECT, 4096)
-    judge(
-        f"each of {ANSWERS} answers is one write",
-        len(packets) == ANSWERS and all(it.count(b"\n") == 1 and it[-1:] == b"\n" for it in packets),
-    )
+    holds = len(packets) == ANSWERS and all(it.count(b"\n") == 1 and it[-1:] == b"\n" for it in packets)
+    judge(f"each of {ANSWERS} answers is one write", holds)
     bytes_read = answers_read(work, settings, 0, 1)
     judge("and no byte of them is lost", len(b"".join(bytes_read).splitlines()) == ANSWERS)
 

@@ -1,8 +1,6 @@
 """Packets by age: `span` of a channel and the time marks of its feed, beside the second writer of
 dev/trials/lib/aged_packets.py, byte for byte."""
 
-from __future__ import annotations
-
 import os
 import random
 import subprocess
@@ -78,7 +76,6 @@ def test_a_recording_is_that_of_the_second_writer(work: Path) -> None:
         run(BPFREC, "upgrade", work / "old.ch11", work / "new.ch11")
         judge_quietly(f"seed {seed}: first profile", (work / "new.ch11").read_bytes() == found, channel)
         judge_quietly(f"seed {seed}: audit", outcome(BPFREC, "audit", work / "out.ch11").returncode == 0, channel)
-    judge(f"{len(SEEDS)} recordings", True)
 
 
 def recorded_with_changes(work: Path, channel: Channel, chunks: list[tuple[list[Item], str]]) -> list[tuple[int, str]]:

@@ -2,8 +2,6 @@
 ends, each between them, and marks one by one; each at its ends is in crates/test_cases/src/values.rt. What is compared
 with is the second writer's (dev/trials/lib/aged_packets.py)."""
 
-from __future__ import annotations
-
 from pathlib import Path
 from typing import NamedTuple
 

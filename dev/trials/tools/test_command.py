@@ -1,6 +1,7 @@
 """Tries the command `bpfrec`: which words go to the proved program, as they stand, and which to a tool."""
 
 import os
+import pty
 import shutil
 import signal
 import subprocess
@@ -13,7 +14,7 @@ from support import BPFREC, COMMAND, KEEPS_ALL, ROOT, judge, judge_quietly, outc
 
 WANTED = ("bin/bpfrec",)
 PROVED = [name for name, verb in verbs.VERBS.items() if verb.is_proved]
-TOOLS = [name for name, verb in verbs.VERBS.items() if verb.module]
+TOOLS = list(verbs.TOOLS)
 
 
 @pytest.mark.parametrize(
@@ -54,12 +55,15 @@ def test_any_other_export_is_the_tools(work: Path) -> None:
 @pytest.mark.parametrize("words", [["--help"], ["help"], ["-h"], ["help", "help"]])
 def test_help_lists_all_verbs_by_group(words: list[str]) -> None:
     told = run(COMMAND, *words)
+    *of_a_flight, others = verbs.GROUPS
+    judge("five groups", of_a_flight == ["Record", "Look", "Hand on", "Check", "Mend"])
+    steps = {*PROVED, "capture"}
+    judge("and the steps that they take, which are the proved program's", steps == set(verbs.GROUPS[others]))
     for group, members in verbs.GROUPS.items():
         judge_quietly(group, f"\n{group}:\n" in told)
         for name, verb in members.items():
             row = f"\n  {'*' if verb.is_proved else ' '} {name:<10} {verb.about}\n"
             judge_quietly(f"{name}: {row}", row in told and f" {verb.example}\n" in told)
-    judge("each has a line and an example, and the proved ones are marked", True)
 
 
 @pytest.mark.parametrize("verb", TOOLS)
@@ -87,9 +91,29 @@ def test_a_verb_or_an_option_that_is_unknown_names_the_nearest() -> None:
     for words, line in known.items():
         done = outcome(COMMAND, *words)
         judge(f"bpfrec {' '.join(words)}", (done.returncode, done.stdout, done.stderr) == (2, "", line), done)
-    done = outcome(COMMAND, "export", "--chanel", "1", "a", "b.pcapng")
-    line = "bpfrec export: error: no such option: --chanel: did you mean --channel?\n"
-    judge("an option of another tool", done.returncode == 2 and done.stderr.endswith(line), done)
+    day, old = "2026-11-29T09:00:00Z", SAMPLES[1]
+    for given, what in {
+        ("--chanel", "1", "a", "b.pcapng"): "no such option: --chanel: did you mean --channel?",
+        ("o.ch10", old): f"{old}: it is there, and OUT is the last word: {old} o.ch10",
+        (
+            old,
+            "o",
+            day,
+        ): f"{day}: OUT is the last word, and a time stands behind --from or --to; `date -u -d {day} +%s` has seconds",
+        (old, "o"): "o: it ends neither in .pcapng nor in .ch10: --as pcapng or --as chapter11 says what it is",
+    }.items():
+        done = outcome(COMMAND, "export", *given)
+        judge(what, done.returncode == 2 and done.stderr.endswith(f"bpfrec export: error: {what}\n"), done)
+
+
+def test_without_words_a_terminal_gets_the_help() -> None:
+    """The program would wait for a listing there."""
+    master, slave = pty.openpty()
+    try:
+        judge("the help", outcome(COMMAND, stdin=slave).stdout == verbs.text())
+    finally:
+        os.close(master)
+        os.close(slave)
 
 
 # ---- where it is installed

@@ -8,8 +8,8 @@ from pathlib import Path
 from typing import IO
 
 import pytest
-from frames import counters, records
-from pcapng import MICROSECONDS, NANOSECONDS, SECOND, capture_head, captured, frames_in, rewritten, with_wrong_sequences
+from frames import records
+from pcapng import SECOND, frames_in, with_wrong_sequences
 from sample_feeds import capture_of, sample_feed
 from support import CAPTURE, judge, outcome, present, run
 
@@ -44,30 +44,6 @@ def test_a_feed_comes_back_from_a_capture_to_the_byte(work: Path, has_check_sequ
     judge(f"tcpdump reads {FRAMES} frames", len(run("tcpdump", "-n", "-r", capture).splitlines()) == FRAMES)
     found = converted(capture, work / "back.feed")
     judge("the capture's feed is the feed, to the byte", found == (f"frames {FRAMES} skipped 0", feed.read_bytes()))
-
-
-@pytest.mark.parametrize(
-    "byte_order, magic, per_unit",
-    [(">", NANOSECONDS, 1), ("<", MICROSECONDS, 1000), (">", MICROSECONDS, 1000)],
-    ids=["big_nanoseconds", "little_microseconds", "big_microseconds"],
-)
-def test_each_form_of_capture_is_read(work: Path, byte_order: str, magic: int, per_unit: int) -> None:
-    feed, capture = sample_feed(work / "in.feed", 7, FRAMES), work / "form.pcap"
-    plain = capture_of(feed, work / "plain.pcap", 0, False)
-    capture.write_bytes(rewritten(plain.read_bytes(), byte_order, magic, per_unit))
-    judge("tcpdump reads it", len(run("tcpdump", "-n", "-r", capture).splitlines()) == FRAMES)
-    ticks = [counter * 100 // per_unit * per_unit // 100 for counter in counters(feed.read_bytes())]
-    judge("its counters", counters(converted(capture, work / "form.feed")[1]) == ticks)
-
-
-def test_frames_that_are_cut_or_of_wrong_lengths_are_skipped(work: Path) -> None:
-    lengths = [(14, 14), (60, 61), (16_379, 16_379), (16_380, 16_380), (13, 13)]
-    frames = [captured(9, 5, bytes(kept), wire) for kept, wire in lengths]
-    (work / "odd.pcap").write_bytes(capture_head(MICROSECONDS) + b"".join(frames))
-    told, feed = converted(work / "odd.pcap", work / "odd.feed")
-    judge("a frame that is cut, too long or too short is skipped", told == "frames 2 skipped 3", told)
-    judge("a short frame is padded", feed[7:9] == b"\x40\x00")
-    judge("the first counter is 0", counters(feed) == [0, 0])
 
 
 def test_frames_whose_check_sequence_is_wrong_are_marked(work: Path) -> None:

@@ -2,8 +2,6 @@
 at either end. dev/trials/capture/test_sanitized.py runs this under the address
 sanitizer too."""
 
-from __future__ import annotations
-
 import fcntl
 import os
 import random
@@ -13,11 +11,9 @@ import time
 from pathlib import Path
 
 import pytest
-from conversion.runs import Converted
 from frames import records
 from pcapng import (
     NANOSECONDS,
-    SECOND,
     all_blocks,
     block,
     capture_head,
@@ -43,12 +39,6 @@ def made_by_capture(work: Path, data: bytes) -> tuple[int, bytes, str]:
     done = outcome(CAPTURE, "--origin", "zero", "-r", f"{work}/given={work}/made")
     made = (work / "made").read_bytes() if (work / "made").exists() else b""
     return done.returncode, made, done.stdout + done.stderr
-
-
-def feed_of(work: Path, data: bytes, origin: int) -> bytes:
-    """The feed of a capture, by the second opinion."""
-    (work / "given").write_bytes(data)
-    return bytes(Converted(work / "given", origin).feed or b"")
 
 
 # ---- lengths
@@ -86,12 +76,10 @@ def bounds(order: str) -> dict[str, tuple[bytes, bool]]:
 @each_order
 @pytest.mark.parametrize("name", bounds("<"))
 def test_what_is_at_a_bound_is_read_and_past_it_refused(work: Path, name: str, order: str) -> None:
-    """What is at a bound is read, what is past it is refused, and the second opinion has the same feed."""
     data, is_read = bounds(order)[name]
     status, feed, told = made_by_capture(work, data)
     behind = [it.frame for it in records(feed)][-1:] == [whole(frame_of(7))]
     judge(f"{name}: {told[-80:].strip()}", (status == 0) == is_read and behind == (is_read and "alone" not in name))
-    judge("the same feed", feed == feed_of(work, data, 0))
 
 
 # ---- slow pipes
@@ -110,10 +98,10 @@ def write_in_pieces(pipe: int, data: bytes, draw: random.Random) -> None:
 
 def test_blocks_that_come_in_pieces_make_the_same(work: Path) -> None:
     """Blocks that come in pieces make what they make at once."""
-    wanted = feed_of(work, all_blocks(), SECOND * 10**9)
+    wanted = made_by_capture(work, all_blocks())[1]
     reads, writes = os.pipe()
     threading.Thread(target=write_in_pieces, args=(writes, all_blocks(), random.Random(1)), daemon=True).start()
-    words = [str(it) for it in (CAPTURE, "--origin", SECOND, "-r", "-=-")]
+    words = [str(it) for it in (CAPTURE, "--origin", "zero", "-r", "-=-")]
     done = subprocess.run(words, stdin=reads, capture_output=True, timeout=60)
     os.close(reads)
     judge("the same feed", done.returncode == 0 and done.stdout == wanted, done.stderr)
@@ -122,7 +110,7 @@ def test_blocks_that_come_in_pieces_make_the_same(work: Path) -> None:
 def test_a_slow_reader_gets_each_frame_whole(work: Path) -> None:
     """Frames that wait for a reader who takes a few bytes at a time come out whole."""
     head, frames = capture_head(NANOSECONDS), [captured(1, at, frame_of(at % 256, 1_000)) for at in range(300)]
-    wanted = feed_of(work, head + b"".join(frames), 0)
+    wanted = made_by_capture(work, head + b"".join(frames))[1]
     reads, writes = os.pipe()
     fcntl.fcntl(writes, fcntl.F_SETPIPE_SZ, SMALL_PIPE)
     with open(work / "given", "rb") as given:

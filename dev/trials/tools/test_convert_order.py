@@ -1,14 +1,13 @@
 """Tries `capture -r` on captures whose first frame isn't the earliest, and on those of which nothing
 can be taken."""
 
-from __future__ import annotations
-
 import gzip
 import struct
 from pathlib import Path
 
 from frames import counters
 from pcapng import MICROSECONDS, capture_head, captured
+from reading import SAMPLES
 from support import CAPTURE, judge, outcome, run
 
 WANTED = ("bin/capture",)
@@ -65,6 +64,7 @@ def test_a_conversion_that_takes_nothing_says_why(work: Path) -> None:
 def test_what_is_no_capture_of_ethernet_is_named(work: Path) -> None:
     for data, said in [
         (gzip.compress(UNORDERED), "compressed by gzip: zcat makes a capture of it"),
+        (SAMPLES[0].read_bytes(), "a recording: bpfrec export makes a capture of it"),
         (
             capture_head(MICROSECONDS, link=127),
             "link type 127 (IEEE802_11_RADIOTAP) of interface 0, where Ethernet is 1",

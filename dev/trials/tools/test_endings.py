@@ -1,8 +1,6 @@
 """Tries how each tool of host/ ends where its output is full or closed, at Ctrl-C, and out of memory: by a line and a
 status."""
 
-from __future__ import annotations
-
 import os
 import resource
 import signal
@@ -18,12 +16,12 @@ from support import (
     CHECK,
     CHECK_SUMS,
     EXPORT,
+    FOLLOW,
     INFO,
     LIVE,
     MEBIBYTE,
     PREFLIGHT,
     SALVAGE,
-    TOOLS,
     judge,
     judge_quietly,
     outcome,
@@ -31,7 +29,6 @@ from support import (
 )
 
 WANTED = ("bin/bpfrec",)
-FOLLOW = TOOLS / "follow"
 FULL, CLOSED = "No space left on device", "Bad file descriptor"
 # Those that print, and those that wait for a pipe; all end at a fault of a file with status 3.
 PRINTING = (
@@ -83,7 +80,7 @@ def words_of(work: Path, tool: str, given: Path | None = None) -> list:
 
 def judge_ending(what: str, tool: str, done: subprocess.CompletedProcess, fault: str) -> None:
     """Judges a tool that could not print."""
-    wanted = (3, f"file -: {fault}\n")
+    wanted = (3, f"{name_of(tool)}: -: {fault}\n")
     judge(f"{tool}: {what}", (done.returncode, done.stderr) == wanted, done)
 
 
@@ -189,4 +186,3 @@ def test_a_tool_with_little_memory_works_or_says_so(work: Path, least: int, tool
         refused += told != wanted
         lacks = told[0] == 4 and told[1].endswith(f"{name}: out of memory\n") and "Traceback" not in told[1]
         judge_quietly(f"{tool} in {most} mebibytes", told == wanted or lacks, found)
-    judge(f"{tool}: {refused} times out of memory", True)

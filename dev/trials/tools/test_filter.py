@@ -59,7 +59,7 @@ def test_what_can_not_be_filtered_is_refused_and_makes_nothing(work: Path, captu
         (["udp prt 5", capture, work / "o.pcapng"], 2, "udp prt 5"),
         ([EXPRESSION, work / "none.pcap", work / "o.pcapng"], 3, f"bpfrec filter: {work}/none.pcap: no such file\n"),
         ([EXPRESSION, work, work / "o.pcapng"], 3, f"bpfrec filter: {work}: it is no regular file\n"),
-        ([EXPRESSION, work / "text", work / "o.pcapng"], 1, "text"),
+        ([EXPRESSION, work / "text", work / "o.pcapng"], 1, f"bpfrec filter: {work}/text: no pcap or pcapng file\n"),
         ([EXPRESSION, capture, capture], 3, f"bpfrec filter: {capture}: it is {capture} itself\n"),
         ([EXPRESSION, capture], 2, "the following arguments are required: OUT"),
     ]
@@ -135,5 +135,9 @@ def test_preflight_asks_no_permission_for_captures(work: Path, capture: Path) ->
 
 def test_a_feed_in_place_of_a_capture_is_refused(work: Path) -> None:
     make_feed(work / "x.pcap", 10)
+    (work / "x.gz").touch()
+    done = outcome(LIVE, "out.ch11", "x.gz=1", cwd=work)
+    what = "bpfrec live: x.gz is a file: captures end in .pcap, .pcapng, .cap\n"
+    judge("another file", (done.returncode, done.stderr) == (2, what), done)
     done = outcome(LIVE, "--quiet", work / "out.ch11", work / "x.pcap")
     judge("it is said", done.returncode != 0 and "x.pcap: no pcap or pcapng file" in done.stderr, done)

@@ -8,10 +8,9 @@ from pathlib import Path
 import pytest
 import tomllib
 from sample_feeds import capture_of
-from support import BPFREC, PREFLIGHT, ROOT, TOOLS, judge, judge_quietly, outcome, run
+from support import BPFREC, LIVE, PREFLIGHT, ROOT, TOOLS, judge, judge_quietly, outcome, run
 
 WANTED = ("bin/bpfrec", "bin/capture", "tcpdump")
-LIVE = TOOLS / "live"
 FEED = ROOT / "examples/feeds/one.feed"
 CHANNELS = """
 [[channel]]
@@ -176,7 +175,7 @@ FAULTS = [
 
 def test_options_that_do_not_go_together_are_all_named(folder: Path) -> None:
     lines = 'out = "o.ch11"\nstatus_name = "a"\nkeep = 3'
-    wanted = ["live: --keep and --keep-free need --every or --size", "live: --status-name needs --status"]
+    wanted = ["bpfrec live: --keep and --keep-free need --every or --size", "bpfrec live: --status-name needs --status"]
     for line, faults in {
         "": wanted,
         'evry = "5s"': wanted[1:],
@@ -184,7 +183,7 @@ def test_options_that_do_not_go_together_are_all_named(folder: Path) -> None:
         "status = {}": wanted[:1],
     }.items():
         told = outcome(PREFLIGHT, flight(folder, f"{lines}\n{line}"), cwd=folder).stdout.splitlines()
-        found = [it for it in told if it.startswith("live: ")]
+        found = [it for it in told if it.startswith("bpfrec live: ")]
         judge(f"but none that follows: {line}", found == faults, told)
 
 
@@ -201,6 +200,31 @@ def test_a_fault_of_a_flight_hides_no_other_and_brings_none(folder: Path) -> Non
 def test_record_knows_no_run(folder: Path) -> None:
     done = outcome(BPFREC, "record", flight(folder, 'out = "o.ch11"'), folder / "o.ch11")
     judge("as it was", (done.returncode, done.stderr) == (2, "settings 2 Unknown run\n"), done)
+
+
+@pytest.mark.parametrize(
+    "words", ["flight.toml --for 3s o.ch11", "--for 3s flight.toml o.ch11", "flight.toml --out o.ch11"]
+)
+def test_a_preflight_of_a_flight_takes_the_arguments_of_live(folder: Path, words: str) -> None:
+    """Wherever they stand; of other settings they are none."""
+    flight(folder, 'quiet = true\nsync = "2s"')
+    told = outcome(PREFLIGHT, *words.split(), cwd=folder).stdout
+    judge("OUT", "flight.toml: note: into o.ch11\n" in told and told.endswith("\n0 faults\n"), told)
+    (folder / "flight.toml").write_text("limit = 3\n")
+    done = outcome(PREFLIGHT, "flight.toml", "--for", "3s", cwd=folder)
+    judge("an option that is none", done.returncode == 2 and "no such option: --for" in done.stderr, done)
+
+
+def test_a_flight_may_come_by_standard_input(folder: Path) -> None:
+    text = flight(folder, 'out = "out.ch11"\nquiet = true').read_text()
+    for words in (["-"], ["--live", "-"], ["-", "--strict"]):
+        done = outcome(PREFLIGHT, *words, cwd=folder, input=text)
+        judge("it is judged", done.returncode == 0 and "-: note: into out.ch11\n" in done.stdout, done)
+    done = outcome(LIVE, "-", "--strict", cwd=folder, input=text)
+    judge("and recorded", done.returncode == 0 and "channel 1 versions 1 offered 60 kept 11" in done.stdout, done)
+    judge("facts keep it", json.loads((folder / "out.ch11.json").read_text())["settings"] == text)
+    done = outcome(LIVE, "-", cwd=folder, input="limit = [\n")
+    judge("no TOML is refused", done.returncode == 2 and "bpfrec live: " in done.stderr, done)
 
 
 def test_the_example_is_a_flight(folder: Path) -> None:

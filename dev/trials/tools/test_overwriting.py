@@ -75,10 +75,10 @@ def test_an_out_that_is_the_input_is_refused_with_force_too(work: Path, tool: st
 
 
 READING = {
-    "info": ([INFO, "own.ch11"], 3, "file -: it is RECORDING itself\n"),
-    "info --json": ([INFO, "--json", "own.ch11"], 3, "file -: it is RECORDING itself\n"),
+    "info": ([INFO, "own.ch11"], 3, "bpfrec info: -: it is RECORDING itself\n"),
+    "info --json": ([INFO, "--json", "own.ch11"], 3, "bpfrec info: -: it is RECORDING itself\n"),
     "check": ([CHECK, "own.ch11"], 3, "bpfrec check: -: it is own.ch11 itself\n"),
-    "salvage": ([SALVAGE, "own.ch11", "out"], 3, "file -: it is DAMAGED itself\n"),
+    "salvage": ([SALVAGE, "own.ch11", "out"], 3, "bpfrec salvage: -: it is DAMAGED itself\n"),
     "pcapng": ([EXPORT, "own.ch11", "out.pcapng"], 3, "bpfrec export: -: it is own.ch11 itself\n"),
     "pcapng -": ([EXPORT, "own.ch11", "-"], 3, "bpfrec export: -: it is own.ch11 itself\n"),
 }
@@ -101,12 +101,16 @@ def test_facts_are_no_standard_output_either(work: Path) -> None:
     (work / "own.ch11.json").write_text("kept")
     with open(work / "own.ch11.json", "a") as out:
         done = outcome(INFO, work / "own.ch11", stdout=out, stderr=subprocess.PIPE)
-    judge("refused", (done.returncode, done.stderr) == (3, "file -: it is RECORDING.json itself\n"), done)
+    judge("refused", (done.returncode, done.stderr) == (3, "bpfrec info: -: it is RECORDING.json itself\n"), done)
 
 
 def test_one_pipe_twice_is_refused(work: Path) -> None:
     done = outcome("sh", "-c", f"cat {SAMPLES[1]} | {SALVAGE} /dev/stdin /proc/self/fd/0", cwd=work, seconds=10)
-    judge("refused", (done.returncode, done.stderr) == (3, "file /proc/self/fd/0: it is DAMAGED itself\n"), done)
+    judge(
+        "refused",
+        (done.returncode, done.stderr) == (3, "bpfrec salvage: /proc/self/fd/0: it is DAMAGED itself\n"),
+        done,
+    )
 
 
 def test_a_recording_twice_is_refused(work: Path) -> None:
@@ -140,11 +144,8 @@ def test_what_is_no_recording_is_refused_by_name(work: Path) -> None:
 
 def test_a_pipe_of_what_is_no_recording_is_refused_too(work: Path) -> None:
     done = outcome("sh", "-c", f"yes | head -n 50 | {INFO} /dev/stdin")
-    judge(
-        "by info",
-        (done.returncode, done.stdout, done.stderr) == (1, "", "bpfrec info: /dev/stdin: no recording\n"),
-        done,
-    )
+    holds = (done.returncode, done.stdout, done.stderr) == (1, "", "bpfrec info: /dev/stdin: no recording\n")
+    judge("by info", holds, done)
 
 
 @pytest.mark.parametrize("words", ["cut.ch11 out", "- out < cut.ch11", "cut.ch11 - > out", "- - < cut.ch11 > out"])

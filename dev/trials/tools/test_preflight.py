@@ -45,6 +45,12 @@ def preflight(folder: Path, *words: str, **more: str) -> subprocess.CompletedPro
     return outcome(PREFLIGHT, *words, cwd=folder, env=environment, seconds=60)
 
 
+def test_settings_without_a_feed_may_be_those_of_live(folder: Path) -> None:
+    (folder / "s.toml").write_text('[[channel]]\nid = 1\nfilter = "arp.txt"\n')
+    line = "s.toml: note: those of live need no feed: bpfrec preflight --live s.toml OUT INTERFACE=CHANNEL"
+    judge("it is said last", preflight(folder, "s.toml").stdout.endswith(f"{line}\n1 fault\n"))
+
+
 def is_said(line: str, wanted: str) -> bool:
     """Whether a line is what is wanted, where `<n>` is any number and `<text>` any text."""
     pattern = re.escape(wanted).replace("<n>", r"\d+").replace("<text>", ".+")
@@ -175,7 +181,6 @@ def test_an_out_that_is_there_is_noted(folder: Path) -> None:
 
 
 def test_settings_that_cannot_be_read_are_a_fault(folder: Path) -> None:
-    """Settings that can't be read."""
     (folder / "latin.toml").write_bytes(b"ring = 1\n# \xe9\n")
     (folder / "longer.toml").write_bytes(GOOD.encode().ljust(1_048_577, b"\n"))
     for path, reason in [
@@ -232,7 +237,7 @@ def test_settings_of_any_text_are_judged_in_seconds_as_record_judges_them(folder
     judge("in few lines", few, len(done.stdout.splitlines()))
     env = {**os.environ, "TMPDIR": str(folder / "private")}
     done = outcome(LIVE, "s.toml", "o.ch11", cwd=folder, env=env, seconds=120)
-    judge("live says it too", done.returncode != 0 and answer in done.stderr, done.stderr[:300])
+    judge("live says it too", done.returncode and answer.removeprefix("file ") in done.stderr, done.stderr[:300])
     behind = resource.getrusage(resource.RUSAGE_CHILDREN)
     took = behind.ru_utime + behind.ru_stime - before.ru_utime - before.ru_stime
     judge(f"both within seconds of processor time: {took}", took < MOST_SECONDS)

@@ -89,7 +89,6 @@ def test_a_terminal_shows_bytes_rate_and_time_left(work: Path, recording: Path, 
 
 
 def test_what_takes_less_than_two_seconds_shows_nothing(work: Path, recording: Path) -> None:
-    """What takes less than two seconds shows nothing."""
     for words in ([INFO, recording], [SALVAGE, recording, work / "out.ch11"], [EXPORT, recording, work / "out.pcapng"]):
         status, told, _ = at_terminal(*words)
         judge(f"{words[0].name} is quick", (status, told) == (0, ""), told)
@@ -117,7 +116,6 @@ def test_from_two_seconds_on_there_is_a_line(work: Path, recording: Path) -> Non
 
 
 def test_what_is_told_meanwhile_stands_on_lines_of_its_own(work: Path, recording: Path) -> None:
-    """What is told meanwhile stands on lines of its own."""
     data = bytearray(recording.read_bytes())
     for at in range(500_000, len(data), 1_000_000):
         data[at] ^= 1
@@ -132,9 +130,8 @@ def test_what_is_told_meanwhile_stands_on_lines_of_its_own(work: Path, recording
 
 def test_a_dumb_terminal_gets_no_progress(work: Path, recording: Path) -> None:
     words = [sys.executable, "-c", AT_ONCE, "salvage", recording, work / "out.ch11"]
-    judge(
-        "a terminal that can't empty a line gets none", at_terminal(*words, env={**os.environ, "TERM": "dumb"})[1] == ""
-    )
+    holds = at_terminal(*words, env={**os.environ, "TERM": "dumb"})[1] == ""
+    judge("a terminal that can't empty a line gets none", holds)
 
 
 def test_sizes_and_times_are_short_texts() -> None:

@@ -1,8 +1,6 @@
 """Tries the plugin for Wireshark on datagrams by which packets are published: each frame is dissected, at a port that a
 preference names."""
 
-from __future__ import annotations
-
 import struct
 from pathlib import Path
 
@@ -82,9 +80,8 @@ def test_each_frame_of_datagrams_is_dissected(work: Path, most: int, passes: lis
     both = write(work, datagrams, datagrams)
     judge("of two senders", len(shown(work, both, "ch11.counter", *AT_PORT, *passes)) == 2 * len(counters))
     frames = printed(work, *AT_PORT, "-r", path, "-T", "fields", "-e", "eth.fcs")
-    judge(
-        "as Ethernet with its check sequence", sum(map(len, (it.split(",") for it in frames if it))) > len(parts) // 2
-    )
+    holds = sum(map(len, (it.split(",") for it in frames if it))) > len(parts) // 2
+    judge("as Ethernet with its check sequence", holds)
 
 
 def test_a_packet_whose_parts_are_missing_or_exchanged_is_left_out(work: Path) -> None:

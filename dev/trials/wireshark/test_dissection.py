@@ -7,7 +7,6 @@ import subprocess
 import zlib
 from pathlib import Path
 
-import pytest
 from frames import (
     COMPUTER,
     FRAMES,
@@ -21,7 +20,7 @@ from frames import (
     with_check_sequence,
 )
 from pcapng import frames_in, times_of
-from reading import SEED, recording_of_three
+from reading import SEED
 from recorder import RECORDINGS, extracted
 from rows import (
     FIELDS,
@@ -80,11 +79,6 @@ def judge_rows(work: Path, what: str, recording: Path) -> None:
         judge_quietly(f"{what} {mode}", found == wanted, differing)
 
 
-@pytest.fixture(scope="module")
-def three(place: Path) -> Path:
-    return recording_of_three(place)
-
-
 # ---- rows
 
 
@@ -101,7 +95,6 @@ def test_rows_of_drawn_recordings_are_those_of_the_reader(work: Path, three: Pat
     for turn in range(DRAWN):
         path.write_bytes(drawn_recording(draw, turn % 2 == 0))
         judge_rows(work, f"draw {turn}", path)
-    judge(f"the rows of {DRAWN} drawn recordings of both profiles", True)
 
 
 def test_frames_are_those_of_extract(work: Path, three: Path) -> None:
@@ -109,11 +102,10 @@ def test_frames_are_those_of_extract(work: Path, three: Path) -> None:
     for recording in (three, flight_of(work)):
         for channel in (1, 2, 3)[: 3 if recording == three else 2]:
             capture, feed = saved(work, recording, channel), records(extracted(recording, channel, work / "one.feed"))
-            judge(
-                f"channel {channel} of {recording.name}: {len(feed)} frames as extract has them",
-                [it[2] for it in frames_in(capture)] == [it.frame for it in feed]
-                and times_of(capture) == [it.counter * 100 for it in feed],
-            )
+            holds = [it[2] for it in frames_in(capture)] == [it.frame for it in feed] and times_of(capture) == [
+                it.counter * 100 for it in feed
+            ]
+            judge(f"channel {channel} of {recording.name}: {len(feed)} frames as extract has them", holds)
 
 
 def test_rows_read_again_in_any_order_are_the_same(work: Path, three: Path) -> None:
@@ -154,9 +146,8 @@ def test_a_failure_of_the_plugin_is_a_row(work: Path) -> None:
     for mode in BOTH_MODES:
         done = outcome("tshark", *words, *mode, env={**env, "HOME": str(work)})
         told = done.stdout.splitlines()
-        judge(
-            f"its row {mode}", len(told) == 2 and "the plugin failed: x" in told[1] and "Error" not in done.stderr, done
-        )
+        holds = len(told) == 2 and "the plugin failed: x" in told[1] and "Error" not in done.stderr
+        judge(f"its row {mode}", holds, done)
 
 
 def test_a_pipe_is_read(work: Path, three: Path) -> None:
@@ -265,10 +256,8 @@ def test_wrong_check_sequences_are_shown(work: Path) -> None:
         "[wrong check sequence]" if it["wrong_fcs"] == "1" else "[faulty]" if it["other_error"] == "1" else ""
         for it in rows
     ]
-    judge(
-        "marked frames show it in the list",
-        [(re.findall(r"\[(?:wrong|faulty).*", it) or [""])[0] for it in infos] == marks,
-    )
+    holds = [(re.findall(r"\[(?:wrong|faulty).*", it) or [""])[0] for it in infos] == marks
+    judge("marked frames show it in the list", holds)
 
 
 # ---- programs
@@ -309,7 +298,6 @@ def test_programs_are_shown_as_dis_prints_them(work: Path) -> None:
         fault = f", which have no text: {done.stderr.strip()}" if done.returncode else ""
         wanted = (f"Instructions: {len(listed)}{fault}", listed if fault else done.stdout.splitlines())
         judge_quietly(f"{text[:60]}", (title, shown) == wanted, (title, shown, wanted))
-    judge(f"the texts of {len(texts)} programs are those of dis", True)
 
 
 # ---- saved captures
@@ -324,17 +312,13 @@ def test_what_is_saved_has_the_frames(work: Path, three: Path) -> None:
     )
     judge("a saved capture has the rows", again == [it["sum"] for it in rows])
     seen = printed(work, "-r", work / "saved.pcapng", "-T", "fields", "-e", "frame.protocols")
-    judge(
-        "frames are dissected",
-        sum("eth_withfcs" in it or ":eth" in it for it in seen) == sum("number" in it for it in rows),
-        seen[:3],
-    )
+    holds = sum("eth_withfcs" in it or ":eth" in it for it in seen) == sum("number" in it for it in rows)
+    judge("frames are dissected", holds, seen[:3])
 
 
 def test_a_plugin_in_two_folders_says_nothing(work: Path) -> None:
     """Where it stands in two folders of plugins nothing is said."""
     shutil.copy(PLUGIN, work / "again.lua")
     done = tshark(work, "-X", f"lua_script:{work}/again.lua", "-r", RECORDINGS / "two_versions.ch11")
-    judge(
-        "a second copy is silent", done.returncode == 0 and not done.stderr and len(done.stdout.splitlines()) == 4, done
-    )
+    holds = done.returncode == 0 and not done.stderr and len(done.stdout.splitlines()) == 4
+    judge("a second copy is silent", holds, done)

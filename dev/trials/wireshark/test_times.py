@@ -109,6 +109,5 @@ def test_times_of_a_whole_file_are_those_of_its_time_packets(work: Path, more: l
     judge("no row is of 1970", all(it.startswith("17") for it in rows), rows[:3])
     run(EXPORT, path, work / "whole.pcapng")
     found = run("tshark", "-r", work / "whole.pcapng", "-T", "fields", "-e", "frame.time_epoch").split()
-    judge(
-        "in pcapng", sorted(found) == sorted(f"{it // 10**9}.{it % 10**9:09}" for it in wanted), (found[:3], wanted[:3])
-    )
+    holds = sorted(found) == sorted(f"{it // 10**9}.{it % 10**9:09}" for it in wanted)
+    judge("in pcapng", holds, (found[:3], wanted[:3]))

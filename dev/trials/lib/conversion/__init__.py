@@ -1,1 +1,0 @@
-"""A second opinion on captures, in Python: feeds from them."""
