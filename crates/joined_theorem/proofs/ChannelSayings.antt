@@ -14,6 +14,7 @@ use Rattle.rec_reader.specs.Packets.{PacketData}
 use Rattle.rec_reader.specs.Channels.{Saying, saying_of, program_said, programs_of, end_said, ends_of, last_program, last_end, capped}
 use Rattle.rec_reader.specs.Channels.Saying.{OfFrames, OfProgram, OfEnd}
 use Rattle.rec_reader.specs.Audits.{IsJudgement, JudgesSaying, Judges, EachPasses}
+use Rattle.rec_whole.proofs.PassingChannels.{last_append}
 
 -- ---- what is said of one channel
 
@@ -67,10 +68,6 @@ pub programs_append : (last : Option ChannelProgram) (ss ts : List Saying)
     → programs_after last (ss ++ ts) ≡ programs_after (programs_after last ss) ts
 programs_append last [] ts = refl
 programs_append last (s ∷ ss) ts = programs_append (program_after last s) ss ts
-
-last_append : {A : Type 0} (o : Option A) (xs ys : List A) → last_or o (xs ++ ys) ≡ last_or (last_or o xs) ys
-last_append o [] ys = refl
-last_append o (x ∷ xs) ys = last_append (Some x) xs ys
 
 end_said_last : (channel : ℕ) (end : Option ChannelEnd) (said : Option (ℕ × Saying))
     → last_or end (end_said channel said) ≡ ends_after end (said_in channel said)
