@@ -4,10 +4,11 @@
 The copy has the files that git knows and those that it doesn't ignore, but for the crates that promise nothing, so kept
 work is neither read nor changed. There each library is proved, each program by both compilers, the tests' own code too,
 and each edit must be refused; edits of one crate share checks (dev/build/groups.py), since the toolchain's own `rt ci`,
-which tries each alone and proves each crate once more for it, takes three times as long. Where all passed, the crates'
-sums are written to dev/build/edits_seen.txt, since each edit was seen refused. Then dev/trials/long/check_memory.py
-refuses memory and threads to the program that was built. The last line is `N passed, M failed`, of all that was proved,
-run and tried.
+which tries each alone and proves each crate once more for it, takes three times as long. Edits that were refused before
+on the same sums of all that they depend on, in dev/build/edits_seen.txt, are left out, so a run that ended early goes
+on; --edits tries all. What was refused is written there, also where the run fails or is interrupted. Then
+dev/trials/long/check_memory.py refuses memory and threads to the program that was built. The last line is
+`N passed, M failed`, of all that was proved, run and tried.
 """
 import argparse
 import contextlib
@@ -19,20 +20,24 @@ from pathlib import Path
 
 from lanes import in_lanes
 from repository import CHECKS, MEMORY, PROGRAM, ROOT, copy_to, crates, libraries, toolchain
-from seen import forget, sums_of, write_seen
+from seen import SEEN, forget, keep_seen, seen, sums_of, unseen, write_seen
 from steps import Step, all_steps, counts_of, edit_steps
 
 
-def every_step() -> list[Step]:
-    """A step for each proof and each test, and those of all edits."""
-    return [*all_steps(libraries(), proves_tests=True), *(step for it in libraries() for step in edit_steps(it, 0))]
+def every_step(edits: bool) -> list[Step]:
+    """A step for each proof and each test, and those of the edits that weren't seen refused, or of all."""
+    tried = libraries() if edits else unseen()
+    return [*all_steps(tried, proves_tests=True), *(step for it in tried for step in edit_steps(it, 0))]
 
 
-def judged_here() -> int:
+def judged_here(edits: bool) -> int:
     """Does what isn't done yet of all steps, on the files where this script lies: the status."""
-    steps = every_step()
+    steps = every_step(edits)
     _ = toolchain().rtlib.lock(list(crates().values()))
-    in_lanes(steps)
+    try:
+        in_lanes(steps)
+    finally:  # also where the run is interrupted
+        keep_seen(it for it in steps if it.kind == "edits")
     done, wrong = counts_of(steps)
     print("".join(f"FAILED: {it.key}\n" for it in steps if not it.is_well()), end="")
     memory = subprocess.run([ROOT / MEMORY, ROOT / PROGRAM]).returncode
@@ -56,18 +61,19 @@ def main() -> int:
     where = parser.add_mutually_exclusive_group()
     where.add_argument("--into", type=Path, metavar="FOLDER", help="copies to FOLDER, a new one, which is kept")
     where.add_argument("--here", action="store_true", help="goes on in the copy where this script lies")
+    parser.add_argument("--edits", action="store_true", help="tries all edits, also those that were seen refused")
     words = parser.parse_args()
     if words.here:
-        return judged_here()
+        return judged_here(words.edits)
     if any([subprocess.run([ROOT / it]).returncode for it in CHECKS]):
         return 1
     before = {it: sums_of(it) for it in libraries()}
     with folder(words.into) as top:
         copy_to(top)
-        status = subprocess.run([top / "dev/build/gate.py", "--here"]).returncode
+        status = subprocess.run([top / "dev/build/gate.py", "--here", *["--edits"] * words.edits]).returncode
+        found = seen(top / SEEN.relative_to(ROOT))
     forget()
-    if not status and before == {it: sums_of(it) for it in before}:
-        write_seen(before)
+    write_seen({it: sums for it, sums in before.items() if found.get(it) == sums == sums_of(it)})
     return status
 
 

@@ -13,8 +13,9 @@ from collections.abc import Iterable
 from pathlib import Path
 from typing import NamedTuple
 
-from repository import EDITS, READ, ROOT, below, crates, line_of, table_in, toolchain, version
+from repository import EDITS, READ, ROOT, below, crates, libraries, line_of, table_in, toolchain, version
 from stated import stated_sum
+from steps import Step
 
 SEEN = ROOT / "dev" / "build" / "edits_seen.txt"
 # The crates whose edits the last run on this machine had no time for.
@@ -81,15 +82,28 @@ def forget() -> None:
     sum_below.cache_clear()
 
 
-def seen() -> dict[str, Sums]:
+def seen(file: Path = SEEN) -> dict[str, Sums]:
     """The crates whose edits were all seen refused, with their sums."""
-    return {name: Sums(*row) for name, row in table_in(SEEN).items()}
+    return {name: Sums(*row) for name, row in table_in(file).items()}
+
+
+def unseen() -> list[str]:
+    """The libraries whose edits were not all seen refused on what they depend on now."""
+    known = seen()
+    return [it for it in libraries() if it not in known or known[it].all != sums_of(it).all]
 
 
 def write_seen(sums: dict[str, Sums]) -> None:
     """Writes these crates' sums beside those of the others, and drops crates that are gone."""
     kept = {name: found for name, found in {**seen(), **sums}.items() if name in crates()}
     SEEN.write_text(HEAD + "".join(f"{name} {' '.join(kept[name])}\n" for name in sorted(kept)))
+
+
+def keep_seen(tried: Iterable[Step]) -> None:
+    """Writes the sums of the crates whose edits were all refused, of the steps that try edits."""
+    ended = [(it.crate, it.is_done()) for it in tried]
+    failed = {crate for crate, is_well in ended if not is_well}
+    write_seen({crate: sums_of(crate) for crate, _ in ended if crate not in failed})
 
 
 def in_turn(names: Iterable[str]) -> list[str]:

@@ -21,18 +21,11 @@ import time
 import trials
 from lanes import in_lanes, processors
 from repository import CHECKS, MEMORY, PROGRAM, ROOT, TESTS, crates, libraries, toolchain
-from seen import in_turn, seen, sums_of, write_left, write_seen
+from seen import in_turn, keep_seen, seen, sums_of, unseen, write_left
 from steps import Step, all_steps, counts_of, edit_steps, keep_costs
 
 # How many processors are many, and the minute by which edits are to end.
 MANY, EDITS_UNTIL, EDITS_UNTIL_ON_FEW = 4, 30, 75
-
-
-def keep_seen(steps: list[Step]) -> None:
-    """Writes the sums of the crates whose edits were all refused."""
-    tried = [it for it in steps if it.kind == "edits"]
-    well = {it.crate for it in tried} - {it.crate for it in tried if not it.is_done()}
-    write_seen({it: sums_of(it) for it in well})
 
 
 def steps_of_edits(words: argparse.Namespace) -> list[Step]:
@@ -41,7 +34,7 @@ def steps_of_edits(words: argparse.Namespace) -> list[Step]:
     if words.no_edits:
         return []
     known = {} if words.edits else seen()
-    changed = [it for it in libraries() if it not in known or known[it].all != sums_of(it).all]
+    changed = libraries() if words.edits else unseen()
     others = in_turn(it for it in changed if it in known and known[it].own == sums_of(it).own)
     turns = [*in_turn(it for it in changed if it not in others), *others]
     return [step for turn, it in enumerate(turns, 1) for step in edit_steps(it, turn, not words.edits)]
@@ -96,7 +89,7 @@ def main() -> int:
     try:
         failed = [it.key for it in in_lanes(steps, until=until)]
     finally:  # also where the run is interrupted
-        keep_seen(steps)
+        keep_seen(tries)
     tell_left(left_of(steps))
     if words.keep_costs:
         keep_costs(steps)

@@ -1,6 +1,6 @@
 -- Recordings that are joined one by one, and the names of their channels.
 use Rattle.std.proofs.Common.{ℕ, zero, suc, ◌+◌, ◌≡◌, ◌<◌, ◌≤◌, ◌^◌, List, [], ◌∷◌, ◌++◌, length, map, take, drop, Option, None, Some, true, cond}
-use Rattle.std.proofs.Common.{refl, sym, ◌∙◌, ap, subst, arith, eq-eqb}
+use Rattle.std.proofs.Common.{refl, sym, ◌∙◌, ap, subst, append_assoc, arith, eq-eqb}
 use Rattle.std.specs.Prelude.{◌==◌, if◌then◌else◌, min, slice_index_or}
 use Rattle.std.specs.List.{find}
 use Rattle.std.proofs.lemmas.List.{drop_more, drop_all, take_more}
@@ -14,7 +14,8 @@ use Rattle.rec_words.specs.declared.setup_file.ChannelSetup.{ChannelSetup}
 use Rattle.rec_words.specs.declared.setup_file.RecordingSettings.{RecordingSettings}
 use Rattle.rec_words.specs.SetupViews.{setup_channel_data}
 use Rattle.cli_chapter11.specs.declared.joined_channels.ListedRecording.{ListedRecording}
-use Rattle.cli_chapter11.specs.Joining.{AreHeld, AreMovedBy, AreReadings, has_id, name_by_table, with_file_id, said_as, said_first, said_in_table}
+use Rattle.cli_chapter11.specs.Joining.{AreHeld, AreMovedBefore, AreReadings, IsMovedBy}
+use Rattle.cli_chapter11.specs.Joining.{has_id, name_by_table, with_file_id, said_as, said_first, said_in_table}
 
 -- ---- names
 
@@ -84,27 +85,33 @@ taken_more xs k x within is = take_more xs k x within ∙ ap (λ y. take k xs ++
 -- ---- what is moved
 
 moved_snoc : {F : Type 0} (held : F → Option (List ℕ)) (start : Origin) (channels : List FileChannel) (files : List F)
-    (tables : List RecordingSettings) (all : List ListedRecording)
+    (tables : List RecordingSettings) (all behind : List ListedRecording)
     (parts : List (Part (FilePackets F))) (file : F) (table : RecordingSettings) (listed : ListedRecording) (part : Part (FilePackets F))
-    → AreMovedBy held start channels files tables all parts
-    → AreMovedBy held start channels (file ∷ []) (table ∷ []) (listed ∷ []) (part ∷ [])
-    → AreMovedBy held start channels (files ++ file ∷ []) (tables ++ table ∷ []) (all ++ listed ∷ []) (parts ++ part ∷ [])
-moved_snoc held start channels [] [] [] [] file table listed part are one = one
-moved_snoc held start channels (f ∷ fs) (c ∷ cs) (r ∷ rs) (p ∷ ps) file table listed part are one =
-    (are.0, are.1, moved_snoc held start channels fs cs rs ps file table listed part are.2 one)
-moved_snoc held start channels files tables all parts file table listed part are one = absurd are
+    → AreMovedBefore held start channels (listed ∷ behind) files tables all parts
+    → AreMovedBefore held start channels behind (file ∷ []) (table ∷ []) (listed ∷ []) (part ∷ [])
+    → AreMovedBefore held start channels behind (files ++ file ∷ []) (tables ++ table ∷ []) (all ++ listed ∷ []) (parts ++ part ∷ [])
+moved_snoc held start channels [] [] [] behind [] file table listed part are one = one
+moved_snoc held start channels (f ∷ fs) (c ∷ cs) (r ∷ rs) behind (p ∷ ps) file table listed part are one = (
+  are.0,
+  subst (λ later. IsMovedBy start channels c r later p.moves) (sym (append_assoc rs (listed ∷ []) behind)) are.1,
+  moved_snoc held start channels fs cs rs behind ps file table listed part are.2 one,
+)
+moved_snoc held start channels files tables all behind parts file table listed part are one = absurd are
 
 pub moved_more : {F : Type 0} (held : F → Option (List ℕ)) (start : Origin) (channels : List FileChannel) (files : List F)
     (tables : List RecordingSettings) (all : List ListedRecording)
     (old new : List (Part (FilePackets F))) (k : ℕ) (file : F) (table : RecordingSettings) (listed : ListedRecording) (part : Part (FilePackets F))
     → k < length files → k < length tables → k < length all
     → file ≡ slice_index_or files k file → table ≡ slice_index_or tables k table → listed ≡ slice_index_or all k listed
-    → new ≡ old ++ part ∷ [] → AreMovedBy held start channels (file ∷ []) (table ∷ []) (listed ∷ []) (part ∷ [])
-    → AreMovedBy held start channels (take k files) (take k tables) (take k all) old
-    → AreMovedBy held start channels (take (k + 1) files) (take (k + 1) tables) (take (k + 1) all) new
+    → new ≡ old ++ part ∷ []
+    → AreMovedBefore held start channels (drop (k + 1) all) (file ∷ []) (table ∷ []) (listed ∷ []) (part ∷ [])
+    → AreMovedBefore held start channels (drop k all) (take k files) (take k tables) (take k all) old
+    → AreMovedBefore held start channels (drop (k + 1) all) (take (k + 1) files) (take (k + 1) tables) (take (k + 1) all) new
 moved_more held start channels files tables all old new k file table listed part f c r fi ci ri pushed one are =
     rw (taken_more files k file f fi) (rw (taken_more tables k table c ci) (rw (taken_more all k listed r ri) (rw pushed
-    (moved_snoc held start channels (take k files) (take k tables) (take k all) old file table listed part are one))))
+    (moved_snoc held start channels (take k files) (take k tables) (take k all) (drop (k + 1) all) old file table listed part
+    (subst (λ behind. AreMovedBefore held start channels behind (take k files) (take k tables) (take k all) old)
+    (drop_more all k listed r ∙ ap (λ (l : ListedRecording). l ∷ drop (k + 1) all) (sym ri)) are) one))))
 
 -- ---- what is read
 

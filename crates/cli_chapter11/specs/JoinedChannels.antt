@@ -1,6 +1,6 @@
 -- What recordings that are joined name.
-use Rattle.std.specs.Prelude.{ℕ, ◌≡◌, ◌⊎◌, ◌<◌, nat_lt, if◌then◌else◌, List, map, get_or, Option}
-use Rattle.std.specs.Prelude.{None, Some}
+use Rattle.std.specs.Prelude.{ℕ, ◌≡◌, ◌⊎◌, ◌<◌, nat_lt, if◌then◌else◌, List, map, get_or, length}
+use Rattle.std.specs.Prelude.{Option, None, Some}
 use Rattle.std.specs.List.{flat_map}
 use Rattle.ch11_channels.specs.declared.channels.FileChannel.{FileChannel}
 use Rattle.ch11_channels.specs.declared.channels.RunChannel.{RunChannel}
@@ -33,6 +33,11 @@ first_refusal (Some other) (Some part) =
 
 abbrev pub listed_refusal : ListedRecording → Option ListedRefusal
 listed_refusal listed = first_refusal listed.other listed.part
+
+-- none of them is refused
+abbrev pub NoneRefused : List ListedRecording → Type 0
+NoneRefused all =
+    (place : ℕ) → place < length all → get_or (map listed_refusal all) place None ≡ None
 
 -- how the command ends by it, of the recording at this place
 abbrev pub ending_listed : ListedRefusal → (place : ℕ) → CommandEnding

@@ -1,5 +1,6 @@
 -- What SETUP says of recordings that are joined, and what is read of them.
-use Rattle.std.specs.Prelude.{ℕ, ◌≡◌, ◌<◌, ◌^◌, ◌==◌, if◌then◌else◌, List, [], ◌∷◌, length, Bool}
+use Rattle.std.specs.Prelude.{ℕ, ◌≡◌, ◌<◌, ◌^◌, ◌==◌, if◌then◌else◌, List, [], ◌∷◌, ◌++◌, length}
+use Rattle.std.specs.Prelude.{map, Bool}
 use Rattle.std.specs.Prelude.{Option, None, Some}
 use Rattle.std.specs.List.{filter, find}
 use Rattle.std.specs.Option.{option_map}
@@ -17,6 +18,7 @@ use Rattle.rec_words.specs.declared.setup_file.RecordingSettings.{RecordingSetti
 use Rattle.rec_words.specs.SetupFile.{ChannelSetupData}
 use Rattle.rec_words.specs.SetupViews.{recording_data}
 use Rattle.cli_chapter11.specs.declared.joined_channels.ListedRecording.{ListedRecording}
+use Rattle.cli_chapter11.specs.RecordsInRuns.{left_by}
 use Rattle.cli_chapter11.specs.WholeFiles.{channel_said, clock_said}
 
 -- ---- the clock of the file
@@ -88,30 +90,39 @@ AreReadings (recording ∷ recordings) (packets ∷ more) =
 AreReadings recordings more = ⊥
 
 -- a recording is moved by its own clock to the clock of the file, and to its channels that are of
--- its run, with the numbers of records that were found for it
+-- its run, with the numbers of records that were found for it; the ends of channels that later ones
+-- of its run name are left out
 abbrev pub is_of_run : (run : ℕ) → FileChannel → Bool
 is_of_run run channel = channel.of.run == run
 
 pub record IsMovedBy (start : Origin) (channels : List FileChannel) (recording : RecordingSettings)
-    (listed : ListedRecording) (moves : Moves)
+    (listed : ListedRecording) (later : List ListedRecording) (moves : Moves)
     : Type 0 where
   pub start_is : moves.start ≡ start
   pub clock_is : moves.clock ≡ clock_said recording
   pub channels_are : moves.channels.items ≡ filter (is_of_run listed.run) channels
   pub run_is : moves.run ≡ listed.run
-  pub records_are : moves.records.items ≡ listed.records.items
+  pub records_are : moves.records.items ≡ map (left_by listed.run later) listed.records.items
 
--- each has the packets of its own file, and is moved by what is said of it
+-- each has the packets of its own file, and is moved by what is said of it, where these recordings
+-- follow all of them
+abbrev pub AreMovedBefore : {F : Type 0} → (held : F → Option (List ℕ)) → (start : Origin)
+    → List FileChannel → (behind : List ListedRecording) → List F
+    → List RecordingSettings → List ListedRecording → List (Part (FilePackets F)) → Type 0
+AreMovedBefore held start channels behind [] [] [] [] = Unit {0}
+AreMovedBefore held start channels behind (file ∷ files) (recording ∷ recordings) (listed ∷ all)
+    (part ∷ parts) =
+    (packets_there held part.packets ≡ option_map places_of (held file))
+    × IsMovedBy start channels recording listed (all ++ behind) part.moves
+    × AreMovedBefore held start channels behind files recordings all parts
+AreMovedBefore held start channels behind files recordings all parts = ⊥
+
+-- none follows them
 abbrev pub AreMovedBy : {F : Type 0} → (held : F → Option (List ℕ)) → (start : Origin)
     → List FileChannel → List F
     → List RecordingSettings → List ListedRecording → List (Part (FilePackets F)) → Type 0
-AreMovedBy held start channels [] [] [] [] = Unit {0}
-AreMovedBy held start channels (file ∷ files) (recording ∷ recordings) (listed ∷ all)
-    (part ∷ parts) =
-    (packets_there held part.packets ≡ option_map places_of (held file))
-    × IsMovedBy start channels recording listed part.moves
-    × AreMovedBy held start channels files recordings all parts
-AreMovedBy held start channels files recordings all parts = ⊥
+AreMovedBy held start channels files recordings all parts =
+    AreMovedBefore held start channels [] files recordings all parts
 
 -- where a recording ends in the joined one
 abbrev pub end_of_part : {P : Type 0} → Part P → ℕ

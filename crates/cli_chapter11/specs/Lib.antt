@@ -6,3 +6,4 @@ pub mod JoinedFiles
 pub mod Joining
 pub mod JoinedChannels
 pub mod RunParts
+pub mod RecordsInRuns

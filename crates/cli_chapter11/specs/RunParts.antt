@@ -1,5 +1,5 @@
 -- Where a recording isn't a part of its run, by its audit.
-use Rattle.std.specs.Prelude.{ℕ, ◌≡◌, ◌≢◌, ◌==◌, ◌⊎◌, Bool, List, [], ◌∷◌, ◌++◌, Option, None, Some}
+use Rattle.std.specs.Prelude.{ℕ, ◌≡◌, ◌≢◌, ◌⊎◌, List, [], ◌∷◌, ◌++◌, Option, None, Some}
 use Rattle.std.specs.Prelude.{Result, Ok, Err}
 use Rattle.rec_reader.specs.declared.audits.answer.Audit.{Audit}
 use Rattle.rec_reader.specs.declared.audits.answer.AuditFault.{AuditFault}
@@ -10,12 +10,7 @@ use Rattle.rec_reader.specs.declared.audits.auditor.Auditor.{Auditor}
 use Rattle.rec_reader.specs.Packets.{PacketData, packets_len}
 use Rattle.rec_reader.specs.Audits.{Audits, EachPasses}
 use Rattle.rec_reader.specs.Auditors.{AuditorStandsFor, Walks, fault_in}
-use Rattle.cli_chapter11.specs.declared.joined_channels.ListedRecording.{ListedRecording}
 use Rattle.cli_chapter11.specs.declared.run_records.Failed.{Failed}
-
--- whether a recording is of this run
-abbrev pub is_in_run : (run : ℕ) → ListedRecording → Bool
-is_in_run run listed = listed.run == run
 
 -- each packet before the one at this place passes the audit, and of those up to it the audit
 -- answers this fault

@@ -1,12 +1,14 @@
 //! What the command reads.
 
-ghost use Rattle.std.specs.Prelude.{◌≡◌, IfOk, length};
+ghost use Rattle.std.specs.Prelude.{ℕ, ◌≡◌, ◌<◌, ◌^◌, [], List, IfOk, IfSome, length};
+ghost use Rattle.rec_reader.specs.Readers.{HasRead};
+ghost use Rattle.rec_pieces.specs.ListingEnds.{ListsRecording};
 
 use cli_streams::{CommandEnding, Inputs, STREAM, bounded_text, refuse_output_into};
 use rec_pieces::{FileAt, ListingEnd, PieceListing, PlacedRead, list_recording};
 use rec_reader::Reader;
 use rec_words::{FileSettings, setup_of};
-use std::alloc::Global;
+use std::alloc::{AllocError, Global};
 use std::fs::{self, OpenFile};
 use std::io::{self, BufReader, Read};
 use std::rt::Files;
@@ -76,16 +78,31 @@ pub(crate) fn settings_in<'a, F: Read + Drop>(
     Ok(setup_of(alloc, text.as_str(), recordings)?)
 }
 
+/// A reader of all packets of a file.
+pub(crate) fn reader_of<'f, F: PlacedRead>(
+    alloc: Global,
+    file: &'f F,
+) -> Result<Reader<BufReader<FileAt<'f, F>>>, AllocError>
+    ensures { IfOk result (λ reader. IfSome (F.held file.entry.now) (λ bytes. length bytes < 2 ^ 64
+        → HasRead bytes [] reader)) }
+{
+    match BufReader::with_capacity(alloc, PIECE, FileAt::new(file, 0)) {
+        Ok(input) => Ok(Reader::new(alloc, input)),
+        Err(_) => Err(AllocError),
+    }
+}
+
 /// The packets of a recording that is read to its end, by channels.
 pub(crate) fn listing_of<'a, F: PlacedRead>(
     alloc: Global,
     recording: &'a str,
     file: &F,
-) -> Result<PieceListing, CommandEnding<'a>> {
-    let input = BufReader::with_capacity(alloc, PIECE, FileAt::new(file, 0)).map_err(
-        |_| CommandEnding::Memory,
-    )?;
-    match list_recording(alloc, &mut Reader::new(alloc, input)) {
+) -> Result<PieceListing, CommandEnding<'a>>
+    ensures { IfOk result (λ listing. IfSome (F.held file.entry.now) (λ bytes.
+        length bytes < 2 ^ 64 → ListsRecording bytes listing)) }
+{
+    let mut reader = reader_of(alloc, file)?;
+    match list_recording(alloc, &mut reader) {
         Ok(listing) => Ok(listing),
         Err(ListingEnd::Reading(end)) => Err(CommandEnding::of_reading(recording, end)),
         Err(ListingEnd::Memory) => Err(CommandEnding::Memory),

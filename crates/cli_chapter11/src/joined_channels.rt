@@ -9,7 +9,7 @@ ghost use Rattle.ch11_channels.specs.Runs.{AreRunsOf};
 ghost use Rattle.rec_whole.specs.declared.refusal.WholeRefusal.TheVariants.{Full, Other};
 ghost use Rattle.cli_streams.specs.declared.ending.CommandEnding.TheVariants.{InRun, Joined, Memory};
 ghost use Rattle.cli_streams.specs.declared.run_refusal.RunRefusal.TheVariants.{Part};
-ghost use Rattle.cli_chapter11.specs.JoinedChannels.{IsFirstRefusal, IsFull, ListedRefusal, after_of, all_listed_channels, ending_listed, listed_refusal};
+ghost use Rattle.cli_chapter11.specs.JoinedChannels.{IsFirstRefusal, IsFull, ListedRefusal, NoneRefused, after_of, all_listed_channels, ending_listed, listed_refusal};
 
 use ch11_channels::{FileChannel, NamedIds, file_channels, named_channels, runs_of, time_channel};
 use cli_streams::{CommandEnding, RunRefusal};
@@ -74,8 +74,7 @@ fn is_from(place: usize, after: Option<usize>) -> bool
 /// of its run, by what stands first in it.
 pub(crate) fn refuse_first(all: &[ListedRecording]) -> Result<(), CommandEnding<'static>>
     ensures { MatchResult result
-        (λ _. (place : ℕ) → place < length all.now
-        → get_or (map listed_refusal all.now) place None ≡ None)
+        (λ _. NoneRefused all.now)
         (λ ending. (place : ℕ) × (refusal : ListedRefusal)
         × IsFirstRefusal (map listed_refusal all.now) place refusal
         × (ending ≡ ending_listed refusal place)) }

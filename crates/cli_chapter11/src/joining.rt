@@ -1,25 +1,24 @@
 //! Recordings that are joined, by what SETUP says of each.
 
-ghost use Rattle.std.specs.Prelude.{ℕ, ◌≡◌, ◌==◌, ◌<◌, ◌^◌, if◌then◌else◌, List, [], length, map, IfOk, IfErr, IfSome};
+ghost use Rattle.std.specs.Prelude.{ℕ, ◌≡◌, ◌==◌, ◌<◌, if◌then◌else◌, List, [], length, map, IfOk, IfErr, IfSome};
 ghost use Rattle.std.specs.List.{flat_map};
 ghost use Rattle.rec_reader.specs.Packets.{PacketData};
-ghost use Rattle.rec_reader.specs.Readers.{HasRead};
 ghost use Rattle.rec_joined.specs.JoinedPackets.{IsJoined};
 ghost use Rattle.cli_chapter11.specs.Joining.{AreHeld, AreMovedBy, AreReadings, IsMovedBy, IsNameBy, IsStartOf, name_by_table, said_in_table, origins_of, packets_there};
+ghost use Rattle.cli_chapter11.specs.RecordsInRuns.{left_by, left_by_ids};
 ghost use Rattle.cli_chapter11.specs.WholeFiles.{channel_said};
 
-use crate::files::PIECE;
+use crate::files::reader_of;
 use crate::joined_channels::ListedRecording;
 use ch11_channels::FileChannel;
 use ch11_clock::{Clock, Origin};
 use ch11_moved::{earliest, file_start};
 use ch11_setup::SetupChannel;
 use rec_joined::{JoinEnd, Joined, Moves};
-use rec_pieces::{FileAt, FilePackets, PlacedRead, packets_are_read_at_their_places};
-use rec_reader::Reader;
+use rec_pieces::{FilePackets, PlacedRead, packets_are_read_at_their_places};
+use rec_runs::{RecordMoves, continue_in};
 use rec_words::RecordingSettings;
 use std::alloc::{AllocError, Global};
-use std::io::BufReader;
 
 /// Why recordings aren't joined, and the place of the one that isn't, from 0.
 #[derive(Clone, Copy, Debug)]
@@ -88,7 +87,15 @@ pub(crate) fn join_in<'f, F: PlacedRead>(
     let mut joined = Joined::new(alloc);
     'files: for place in 0..files.len() {
         let file = &files[place];
-        let Ok(moves) = moves_of(alloc, &recordings[place], &all[place], channels, start) else {
+        let later = &all[place + 1..];
+        let Ok(moves) = moves_of(
+            alloc,
+            &recordings[place],
+            &all[place],
+            later,
+            channels,
+            start,
+        ) else {
             return Err(JoinFault {
                 end: JoinEnd::Memory,
                 place,
@@ -113,10 +120,11 @@ fn moves_of(
     alloc: Global,
     recording: &RecordingSettings,
     listed: &ListedRecording,
+    later: &[ListedRecording],
     channels: &[FileChannel],
     start: Origin,
 ) -> Result<Moves, AllocError>
-    ensures { IfOk result (IsMovedBy start channels.now recording.now listed.now) }
+    ensures { IfOk result (IsMovedBy start channels.now recording.now listed.now later.now) }
 {
     let clock = Clock::new(alloc, recording.origins.as_slice())?;
     let mut own = Vec::new(alloc);
@@ -127,6 +135,7 @@ fn moves_of(
     }
     let mut records = Vec::new(alloc);
     records.extend_from_slice(listed.records.as_slice())?;
+    leave_ends(records.as_mut_slice(), listed.run, later);
     Ok(Moves {
         start,
         clock,
@@ -136,17 +145,23 @@ fn moves_of(
     })
 }
 
-/// A reader of all packets of a file.
-pub(crate) fn reader_of<'f, F: PlacedRead>(
-    alloc: Global,
-    file: &'f F,
-) -> Result<Reader<BufReader<FileAt<'f, F>>>, AllocError>
-    ensures { IfOk result (λ reader. IfSome (F.held file.entry.now) (λ bytes. length bytes < 2 ^ 64
-        → HasRead bytes [] reader)) }
+/// Leaves out the ends of the channels that later recordings of the run name.
+fn leave_ends(records: &mut [RecordMoves], run: usize, later: &[ListedRecording])
+    ensures { records.new ≡ map (left_by run later.now) records.old }
 {
-    match BufReader::with_capacity(alloc, PIECE, FileAt::new(file, 0)) {
-        Ok(input) => Ok(Reader::new(alloc, input)),
-        Err(_) => Err(AllocError),
+    'later: for listed in later {
+        if listed.run == run {
+            leave_ends_of(records, listed.ids.as_slice());
+        }
+    }
+}
+
+/// Leaves out the ends of these channels.
+fn leave_ends_of(records: &mut [RecordMoves], ids: &[u16])
+    ensures { records.new ≡ map (left_by_ids ids.now) records.old }
+{
+    'ids: for id in ids {
+        continue_in(records, *id);
     }
 }
 

@@ -9,6 +9,8 @@ mod files;
 mod joined_channels;
 mod joined_file;
 mod joining;
+mod laws;
+mod listed;
 mod passes;
 mod run_records;
 mod several;

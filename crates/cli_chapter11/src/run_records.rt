@@ -1,22 +1,25 @@
 //! The records of recordings that follow one another.
 
-ghost use Rattle.std.specs.Prelude.{ℕ, ◌≡◌, ◌<◌, ◌∷◌, ◌++◌, [], nat_lt, List, None, IfOk, length};
-ghost use Rattle.std.specs.List.{count_by};
+ghost use Rattle.std.specs.Prelude.{ℕ, ◌≡◌, ◌≢◌, ◌<◌, ◌^◌, ◌∷◌, ◌++◌, [], List, None, IfOk, IfSome, OnOk, length};
+ghost use Rattle.std.specs.Ordering.{nat_cmp};
+ghost use Rattle.std.specs.BTreeMap.{get};
 ghost use Rattle.rec_reader.specs.Auditors.{AuditorStandsFor, fault_in};
 ghost use Rattle.rec_reader.specs.Packets.{PacketData, packets_len};
 ghost use Rattle.rec_reader.specs.Views.{packet_data};
-ghost use Rattle.cli_chapter11.specs.RunParts.{IsJudgedSoFar, IsPartOfRun, is_in_run};
+ghost use Rattle.cli_chapter11.specs.RecordsInRuns.{StandsForRun, is_several};
+ghost use Rattle.cli_chapter11.specs.RunParts.{IsJudgedSoFar, IsPartOfRun};
 ghost use Rattle.rec_reader.specs.Reading.{Reads};
 ghost use Rattle.rec_reader.specs.Readers.{HasRead};
+ghost use Rattle.rec_runs.specs.Moves.{AreRecordMoves};
 ghost use Rattle.rec_runs.specs.RunsRead.{RunStandsFor};
 
-use crate::joined_channels::ListedRecording;
-use crate::joining::reader_of;
+use crate::files::reader_of;
 use cli_streams::CommandEnding;
 use rec_pieces::PlacedRead;
 use rec_reader::{AuditFault, Auditor, Packet, ReadEnd, Reader};
-use rec_runs::{RunRecords, continue_in};
+use rec_runs::{RecordMoves, RunRecords};
 use std::alloc::{AllocError, Global};
+use std::collections::BTreeMap;
 use std::io::Read;
 
 /// Why a recording of a run isn't read.
@@ -40,78 +43,79 @@ impl From<AllocError> for PartEnd {
     }
 }
 
-/// Reads the recordings of each run of several, and notes what their records become and where one isn't a part of its
-/// run.
-pub(crate) fn read_runs<'a, F: PlacedRead>(
-    alloc: Global,
-    names: &'a [String],
-    files: &[F],
-    all: &mut [ListedRecording],
-) -> Result<(), CommandEnding<'a>>
-    requires names { length names.now ≡ length all.old }
-    requires files { length files.now ≡ length all.old }
-    ensures { length all.new ≡ length all.old }
-{
-    'runs: for run in 0..all.len() {
-        if is_of_several(all, run) {
-            read_run(alloc, names, files, all, run)?;
-        }
-    }
-    Ok(())
+/// What is found in a recording that is one of several of its run.
+#[derive(Drop)]
+pub(crate) struct FoundInRun {
+    /// Where it isn't a part of its run, if it isn't.
+    pub part: Option<u64>,
+    /// What the records of its channels become, where no later recording of the run is known.
+    pub records: Vec<RecordMoves>,
 }
 
 /// Whether two recordings or more are of this run.
-fn is_of_several(all: &[ListedRecording], run: usize) -> bool
-    ensures { result ≡ nat_lt 1 (count_by (is_in_run run) all.now) }
+pub(crate) fn is_of_several(runs: &[usize], run: usize) -> bool
+    ensures { result ≡ is_several run runs.now }
 {
     let mut count: usize = 0;
-    'recordings: for listed in all {
-        if listed.run == run {
+    'recordings: for other in runs {
+        if *other == run {
             count += 1;
         }
     }
     count > 1
 }
 
-/// Reads the recordings of a run, one after the other.
-fn read_run<'a, F: PlacedRead>(
+/// Reads the recording at a place, which follows those of its run that were read before.
+pub(crate) fn read_in_run<'a, F: PlacedRead>(
     alloc: Global,
-    names: &'a [String],
-    files: &[F],
-    all: &mut [ListedRecording],
+    name: &'a str,
+    file: &F,
+    kept: &mut BTreeMap<usize, RunRecords>,
     run: usize,
-) -> Result<(), CommandEnding<'a>>
-    requires names { length names.now ≡ length all.old }
-    requires files { length files.now ≡ length all.old }
-    ensures { length all.new ≡ length all.old }
+    place: usize,
+) -> Result<FoundInRun, CommandEnding<'a>>
+    ensures found { IfOk result (λ found. IfSome (F.held file.entry.now) (λ recording.
+        length recording < 2 ^ 64 → (own : List PacketData) × Reads recording own None
+        × IsPartOfRun own found.part
+        × ((earlier : List (List PacketData)) → StandsForRun (get nat_cmp kept.old run) earlier
+        → AreRecordMoves earlier own found.records.items
+        × StandsForRun (get nat_cmp kept.new run) (earlier ++ own ∷ [])))) }
+    ensures others { OnOk result ((other : ℕ) → run ≢ other
+        → get nat_cmp kept.new other ≡ get nat_cmp kept.old other) }
 {
-    let mut records = RunRecords::new(alloc);
-    'recordings: for place in 0..all.len() {
-        if all[place].run == run {
-            let name = names[place].as_str();
-            all[place].part = part_of(alloc, name, &files[place], &mut records, place)?;
-            all[place].records = records.moves(alloc)?;
-            records.begin_next();
-            leave_ends(all, run, place);
+    match kept.get_mut(&run) {
+        Some(records) => read_next(alloc, name, file, records, place),
+        None => {
+            let mut records = RunRecords::new(alloc);
+            let found = read_next(alloc, name, file, &mut records, place)?;
+            kept.insert(run, records)?;
+            Ok(found)
         }
     }
-    Ok(())
 }
 
-/// Leaves out the ends of the channels of the recording at a place in those of its run before it.
-fn leave_ends(all: &mut [ListedRecording], run: usize, place: usize)
-    requires { place < length all.old }
-    ensures { length all.new ≡ length all.old }
+/// Reads the recording at a place, which follows those whose records were taken.
+fn read_next<'a, F: PlacedRead>(
+    alloc: Global,
+    name: &'a str,
+    file: &F,
+    records: &mut RunRecords,
+    place: usize,
+) -> Result<FoundInRun, CommandEnding<'a>>
+    ensures { IfOk result (λ found. IfSome (F.held file.entry.now) (λ recording.
+        length recording < 2 ^ 64 → (own : List PacketData) × Reads recording own None
+        × IsPartOfRun own found.part
+        × ((earlier : List (List PacketData)) → RunStandsFor records.old earlier []
+        → AreRecordMoves earlier own found.records.items
+        × RunStandsFor records.new (earlier ++ own ∷ []) []))) }
 {
-    let (before, others) = all.split_at_mut(place);
-    let ids = others[0].ids.as_slice();
-    'earlier: for earlier in before.iter_mut() {
-        if earlier.run == run {
-            'ids: for id in ids {
-                continue_in(earlier.records.as_mut_slice(), *id);
-            }
-        }
-    }
+    let part = part_of(alloc, name, file, records, place)?;
+    let moves = records.moves(alloc)?;
+    records.begin_next();
+    Ok(FoundInRun {
+        part,
+        records: moves,
+    })
 }
 
 /// Reads the recording at a place, whose records are taken, and gives where it isn't a part of its run.
@@ -121,7 +125,13 @@ fn part_of<'a, F: PlacedRead>(
     file: &F,
     records: &mut RunRecords,
     place: usize,
-) -> Result<Option<u64>, CommandEnding<'a>> {
+) -> Result<Option<u64>, CommandEnding<'a>>
+    ensures { IfOk result (λ part. IfSome (F.held file.entry.now) (λ recording.
+        length recording < 2 ^ 64 → (own : List PacketData) × Reads recording own None
+        × IsPartOfRun own part
+        × ((earlier : List (List PacketData)) → RunStandsFor records.old earlier []
+        → RunStandsFor records.new earlier own))) }
+{
     let mut reader = reader_of(alloc, file)?;
     match read_part(alloc, &mut reader, records) {
         Ok(part) => Ok(part),

@@ -1,6 +1,9 @@
 //! The command, of several recordings.
 
 ghost use Rattle.std.specs.Prelude.{ℕ, ◌≡◌, ◌<◌, List, Option, Err, IfOk, length, map};
+ghost use Rattle.ch11_channels.specs.GivenIds.{AreNumberedChannels};
+ghost use Rattle.ch11_channels.specs.Runs.{AreRunsOf};
+ghost use Rattle.rec_reader.specs.Packets.{PacketData};
 ghost use Rattle.std.specs.Io.KnownBytes.{Keeps};
 ghost use Rattle.std.specs.Io.Buffered.{writer_contents};
 ghost use Rattle.cli_chapter11.specs.declared.joining.JoinFault.{JoinFault};
@@ -12,15 +15,17 @@ ghost use Rattle.cli_streams.specs.declared.ending.CommandEnding.TheVariants.{In
 ghost use Rattle.cli_streams.specs.declared.run_refusal.RunRefusal.TheVariants.{Sum as HasSum};
 ghost use Rattle.cli_streams.specs.OwnPlaces.{IsJoinedRefusal};
 ghost use Rattle.cli_chapter11.specs.declared.writing.WriteEnd.TheVariants.{Refused};
-ghost use Rattle.cli_chapter11.specs.Joining.{end_of_part};
+ghost use Rattle.cli_chapter11.specs.JoinedChannels.{NoneRefused, after_of, all_listed_channels};
+ghost use Rattle.cli_chapter11.specs.Joining.{AreHeld, AreReadings, end_of_part};
 ghost use Rattle.cli_chapter11.specs.JoinedFiles.{WritesRecordings};
+ghost use Rattle.cli_chapter11.specs.RecordsInRuns.{AreListedInRuns, run_of_listed};
 
 use crate::command::{NamedOut, print_counts};
 use crate::files::{listing_of, open_recording, setup_in};
 use crate::joined_channels::{ListedRecording, channels_in, refuse_first, runs_in};
 use crate::joined_file::JoinedFile;
 use crate::joining::{JoinFault, join_in, start_in};
-use crate::run_records::read_runs;
+use crate::listed::list_all;
 use crate::uncreated::Uncreated;
 use crate::writing::{WriteEnd, judged_then_written};
 use ch11_channels::FileChannel;
@@ -28,7 +33,7 @@ use ch11_clock::Origin;
 use ch11_file::FileCounts;
 use cli_streams::{CommandEnding, Inputs, LockFile, RunRefusal};
 use rec_joined::{JoinEnd, Joined, MoveFault};
-use rec_pieces::{PacketsAt, PieceListing, PlacedRead};
+use rec_pieces::{PacketsAt, PlacedRead};
 use rec_whole::WholeRefusal;
 use rec_words::FileSettings;
 use std::alloc::{AllocError, Global};
@@ -159,6 +164,15 @@ where
     ensures listed { IfOk result (λ all. length all.all.items ≡ length recordings.entry.now) }
     ensures tables { IfOk result
         (λ all. length all.settings.recordings.items ≡ length recordings.entry.now) }
+    ensures known { IfOk result
+        (λ all. (bytes : List (List ℕ)) → AreHeld R.File.held all.files.items bytes
+        → (read : List (List PacketData)) × AreReadings bytes read
+        × AreListedInRuns all.all.items read) }
+    ensures runs { IfOk result (λ all. AreRunsOf (map after_of all.settings.recordings.items)
+        (map run_of_listed all.all.items)) }
+    ensures joinable { IfOk result (λ all. NoneRefused all.all.items) }
+    ensures channels { IfOk result
+        (λ all. AreNumberedChannels (all_listed_channels all.all.items) all.channels.items) }
 {
     let alloc = rt.alloc();
     refuse_many(alloc, recordings.len())?;
@@ -167,8 +181,7 @@ where
     let files = open_recordings(rt, recordings, inputs)?;
     let settings = setup_in(rt, inputs, setup, opened, out, recordings.len())?;
     let runs = runs_in(alloc, &settings.recordings)?;
-    let mut all = list_all(alloc, recordings, &files, &runs)?;
-    read_runs(alloc, recordings, &files, &mut all)?;
+    let all = list_all(alloc, recordings, &files, &runs)?;
     refuse_first(&all)?;
     let channels = channels_in(alloc, &all)?.channels;
     Ok(Listed {
@@ -294,42 +307,4 @@ fn open_recordings<'a, R: AllocGlobal + Files>(
         files.push(file)?;
     }
     Ok(files)
-}
-
-/// What is known of recordings, each of its run, once all of them were read to their ends. Their packets aren't kept.
-fn list_all<'a, F: PlacedRead>(
-    alloc: Global,
-    recordings: &'a [String],
-    files: &[F],
-    runs: &[usize],
-) -> Result<Vec<ListedRecording>, CommandEnding<'a>>
-    requires files { length files.now ≡ length recordings.now }
-    requires runs { length runs.now ≡ length recordings.now }
-    ensures { IfOk result (λ all. length all.items ≡ length recordings.entry.now) }
-{
-    let mut all = Vec::new(alloc);
-    'recordings: for place in 0..recordings.len() {
-        let listing = listed_at(alloc, recordings[place].as_str(), &files[place], place)?;
-        all.push(ListedRecording {
-            run: runs[place],
-            ids: listing.channels(alloc)?,
-            other: listing.other(),
-            part: None,
-            records: Vec::new(alloc),
-        })?;
-    }
-    Ok(all)
-}
-
-/// The packets of the recording at a place, by channels.
-fn listed_at<'a, F: PlacedRead>(
-    alloc: Global,
-    recording: &'a str,
-    file: &F,
-    place: usize,
-) -> Result<PieceListing, CommandEnding<'a>> {
-    match listing_of(alloc, recording, file) {
-        Ok(listing) => Ok(listing),
-        Err(ending) => Err(ending.with_place(place)),
-    }
 }

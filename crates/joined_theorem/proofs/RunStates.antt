@@ -228,7 +228,7 @@ pub record OwnEnd (channel : ℕ) (packets : List PacketData) : Type 0 where
   pub is : last_end channel packets ≡ Some end
   pub counts : HasCounts (last_program channel packets) (length (channel_frames channel packets)) end
 
-own_end : (channel : ℕ) (packets : List PacketData) → Closes packets channel None → OwnEnd channel packets
+pub own_end : (channel : ℕ) (packets : List PacketData) → Closes packets channel None → OwnEnd channel packets
 own_end channel packets closes = here (last_end channel packets) refl closes
   where
     here : (end : Option ChannelEnd) → last_end channel packets ≡ end

@@ -40,7 +40,7 @@ no_programs channel (packet ∷ packets) is =
     ap (λ l. map (placed_program packet.at) l ++ placed_programs channel packets) (no_program channel (saying_of packet) both.0)
     ∙ no_programs channel packets both.1
 
-no_ends : (channel : ℕ) (packets : List PacketData) → recording_has channel packets ≡ false → ends_of channel packets ≡ []
+pub no_ends : (channel : ℕ) (packets : List PacketData) → recording_has channel packets ≡ false → ends_of channel packets ≡ []
 no_ends channel [] is = refl
 no_ends channel (packet ∷ packets) is =
     let both = neither (tells_of channel packet) (recording_has channel packets) is in

@@ -1,4 +1,4 @@
-use Rattle.std.proofs.Common.{ℕ, ◌≡◌, map, take}
+use Rattle.std.proofs.Common.{◌≡◌, map, take}
 use Rattle.ch11_channels.specs.Runs.{FollowEarlier}
 use Rattle.cli_chapter11.specs.JoinedChannels.{after_of}
 use Rattle.cli_chapter11.proofs.joined_channels.runs_in.Given as goal

@@ -1,7 +1,8 @@
-use Rattle.std.proofs.Common.{◌≡◌, ◌∙◌, ◌∷◌, ◌++◌, ◌<◌, ◌^◌, [], ap, sym, subst, length, arith, take, Some}
+use Rattle.std.proofs.Common.{◌∙◌, ◌+◌, ◌-◌, ◌∷◌, ◌++◌, ◌<◌, ◌^◌, [], ap, sym, subst, length, arith, drop, List}
 use Rattle.std.specs.Prelude.{IfSome}
 use Rattle.std.specs.Option.{option_map}
-use Rattle.std.proofs.lemmas.List.{take_all}
+use Rattle.std.proofs.lemmas.List.{length-drop, take_all}
+use Rattle.cli_chapter11.specs.declared.joined_channels.ListedRecording.{ListedRecording}
 use Rattle.rec_reader.specs.Readers.{HasRead}
 use Rattle.rec_pieces.specs.Entries.{places_of}
 use Rattle.cli_chapter11.specs.Joining.{packets_there}
@@ -16,6 +17,7 @@ files-preserved g c =
     let file = c.index-files-place.result in
     let table = c.index-recordings-place.result in
     let listed = c.index-all-place.result in
+    let later : List ListedRecording = drop (k + 1) c.args.all.now in
     let pushed = c.in-Ok-add.ensures.pushed in (
       moved_more held c.args.start c.args.channels.now c.args.files.now c.args.recordings.now c.args.all.now
           c.files.joined.parts.items c.add.new.self.parts.items
@@ -24,7 +26,9 @@ files-preserved g c =
           c.index-files-place.is c.index-recordings-place.is c.index-all-place.is
           pushed.1 (
             ap (packets_there held) pushed.2 ∙ c.new.ensures,
-            subst (IsMovedBy c.args.start c.args.channels.now table listed) (sym pushed.3) c.in-Ok.ensures,
+            subst (λ moves. IsMovedBy c.args.start c.args.channels.now table listed later moves) (sym pushed.3)
+                (subst (λ l. IsMovedBy c.args.start c.args.channels.now table listed l c.in-Ok.moves)
+                (take_all (length c.args.all.now - (k + 1)) later (omega (arith, length-drop (k + 1) c.args.all.now))) c.in-Ok.ensures),
             tt,
           )
           c.files.invariant.0,

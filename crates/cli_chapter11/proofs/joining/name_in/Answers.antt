@@ -1,8 +1,5 @@
-use Rattle.std.proofs.Common.{◌≡◌, ◌∙◌, ◌∷◌, ◌+◌, [], List, ap, arith, drop, sym}
-use Rattle.std.specs.Prelude.{◌==◌, if◌then◌else◌}
-use Rattle.rec_words.specs.SetupFile.{ChannelSetupData}
-use Rattle.cli_chapter11.specs.Joining.{name_by_table, said_first, said_in_table}
-use Rattle.cli_chapter11.specs.WholeFiles.{channel_said}
+use Rattle.std.proofs.Common.{◌∙◌, ◌+◌, ap, arith, drop}
+use Rattle.cli_chapter11.specs.Joining.{name_by_table, said_first}
 use Rattle.cli_chapter11.proofs.JoinedRecordings.{names_end, names_next}
 use Rattle.cli_chapter11.proofs.joining.name_in.Goals as goal
 

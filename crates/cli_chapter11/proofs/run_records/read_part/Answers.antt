@@ -1,11 +1,10 @@
-use Rattle.std.proofs.Common.{◌≡◌, ◌+◌, ◌∙◌, ◌++◌, ◌∷◌, [], ℕ, List, Option, Ok, ap, arith, refl, subst, sym}
+use Rattle.std.proofs.Common.{◌+◌, ◌∙◌, ◌++◌, ◌∷◌, [], ℕ, Option, Ok, ap, refl, subst, sym}
 use Rattle.std.specs.Prelude.{Result, Err, IfOk}
 use Rattle.rec_reader.specs.Packets.{PacketData, packets_len}
-use Rattle.rec_reader.specs.Reading.{Reads}
 use Rattle.rec_reader.specs.Readers.{HasRead, Tells, given_by}
 use Rattle.rec_runs.specs.RunsRead.{RunStandsFor}
 use Rattle.rec_joined.proofs.ListedSoFar.{len_more}
-use Rattle.cli_chapter11.specs.RunParts.{IsJudgedSoFar, IsPartOfRun}
+use Rattle.cli_chapter11.specs.RunParts.{IsJudgedSoFar}
 use Rattle.cli_chapter11.proofs.run_records.read_part.Goals as goal
 
 -- what is said of the part that is found holds with what is known beside it
