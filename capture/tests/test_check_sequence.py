@@ -6,7 +6,7 @@ from pathlib import Path
 import pytest
 from support import ROOT, run
 
-WANTED = ("gcc",)
+pytestmark = pytest.mark.wanted("gcc")
 LENGTHS, PLACES = [*range(2100), *range(2100, 16_385, 119)], 16
 # Prints the check sequence of each length and place, of bytes that the formula in `drawn` gives too.
 DRIVER = """

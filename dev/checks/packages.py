@@ -1,5 +1,5 @@
 #!/usr/bin/env python3
-"""Checks that dev/package/packages.txt has the package of each program that checks or trials name as WANTED."""
+"""Checks that dev/package/packages.txt has the package of each program that tests and trials mark as wanted."""
 import argparse
 import re
 import sys
@@ -9,15 +9,14 @@ from pathlib import Path
 ROOT = Path(__file__).resolve().parents[2]
 LIST = ROOT / "dev" / "package" / "packages.txt"
 sys.path.insert(0, str(ROOT / "dev/trials/lib"))
-from support import BUILT, PACKAGES
+from support import BUILT, PACKAGES, ROOT_USER
 
 
 def wanted() -> Iterator[tuple[str, Path]]:
     """The package of each program that a file wants, with the file."""
     for file in sorted(it for folder in ("dev", "host", "capture") for it in (ROOT / folder).rglob("*.py")):
-        found = re.search(r"^WANTED = \((.*?)\)", file.read_text(), re.MULTILINE | re.DOTALL)
-        for name in re.findall(r'"(.+?)"', found[1]) if found else []:
-            if name not in BUILT:
+        for marked in re.findall(r"pytest\.mark\.wanted\((.*?)\)", file.read_text(), re.DOTALL):
+            for name in set(re.findall(r'"(.+?)"', marked)) - {*BUILT, ROOT_USER}:
                 yield PACKAGES.get(name, name), file.relative_to(ROOT)
 
 

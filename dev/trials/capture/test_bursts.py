@@ -17,8 +17,7 @@ from frames import numbered, numbers
 from namespace import make_many_pairs, make_pair, send_numbered, set_link, socket_into, take_away, wait_until_up
 from support import CAPTURE, LIBRARY, Reader, Running, judge, judge_quietly, pipe_at, present, run, wait_for
 
-WANTED = ("bin/capture", "ip")
-pytestmark = [pytest.mark.timed, pytest.mark.usefixtures("namespace")]
+pytestmark = [pytest.mark.wanted("bin/capture", "ip"), pytest.mark.timed, pytest.mark.usefixtures("namespace")]
 # Interfaces that take a second to open, and the length of a shortest frame's record.
 OPENED, RECORD_LEN = 24, 73
 COUNTS = re.compile(r"rx0 frames (\d+) bytes \d+ dropped (\d+)")

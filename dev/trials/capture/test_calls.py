@@ -13,8 +13,11 @@ from namespace import make_pair, send_numbered, take_away
 from pcapng import capture_head, captured, frame_of
 from support import CAPTURE, LIBRARY, NOBODY, Reader, Running, judge, outcome, pipe_at, run, shared_library, wait_for
 
-WANTED = ("bin/bpfrec", "bin/capture", "ip", "cc")
-pytestmark = [pytest.mark.timed, pytest.mark.usefixtures("namespace")]
+pytestmark = [
+    pytest.mark.wanted("bin/bpfrec", "bin/capture", "ip", "cc"),
+    pytest.mark.timed,
+    pytest.mark.usefixtures("namespace"),
+]
 # What a capture calls while interfaces go down, leave and come back, and feeds and listings are exchanged.
 CALLED = """poll read write recvfrom openat close newfstatat dup fcntl pipe2 ftruncate uname bind getsockname
     getsockopt setsockopt eventfd2 capget capset futex set_robust_list rseq munmap mremap madvise brk rt_sigprocmask

@@ -17,8 +17,11 @@ from namespace import send_numbered
 from support import CAPTURE, MILLISECOND, SECOND, Reader, Running, judge, judge_quietly, origin_told, pipe_at, wait_for
 from time_marks import begin, frames_of, judge_ended, judge_moments, judge_order, marks_of
 
-WANTED = ("bin/bpfrec", "bin/capture", "ip", "cc", "pcap-config")
-pytestmark = [pytest.mark.timed, pytest.mark.usefixtures("namespace")]
+pytestmark = [
+    pytest.mark.wanted("bin/bpfrec", "bin/capture", "ip", "cc", "pcap-config"),
+    pytest.mark.timed,
+    pytest.mark.usefixtures("namespace"),
+]
 STEP = -3600 * SECOND
 PPM = 500
 ADAPTER_AHEAD = 37

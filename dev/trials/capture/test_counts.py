@@ -15,8 +15,11 @@ from frames import numbers
 from namespace import send_numbered
 from support import CAPTURE, Reader, Running, judge, judge_quietly, pipe_at, wait_for
 
-WANTED = ("bin/bpfrec", "bin/capture", "ip")
-pytestmark = [pytest.mark.timed, pytest.mark.usefixtures("namespace")]
+pytestmark = [
+    pytest.mark.wanted("bin/bpfrec", "bin/capture", "ip"),
+    pytest.mark.timed,
+    pytest.mark.usefixtures("namespace"),
+]
 SENT = 300
 COUNTED = ("frames", "bytes", "dropped", "missed", "skipped", "waited")
 # Room for a line, and not for two.

@@ -18,8 +18,11 @@ from namespace import send_numbered
 from pcapng import capture_head, captured, frame_of
 from support import CAPTURE, Reader, Running, judge, judge_quietly, outcome, pipe_at, present, wait_for
 
-WANTED = ("bin/bpfrec", "bin/capture", "ip")
-pytestmark = [pytest.mark.timed, pytest.mark.usefixtures("namespace")]
+pytestmark = [
+    pytest.mark.wanted("bin/bpfrec", "bin/capture", "ip"),
+    pytest.mark.timed,
+    pytest.mark.usefixtures("namespace"),
+]
 SENT = 2_000
 
 

@@ -27,8 +27,11 @@ from support import (
     wait_for,
 )
 
-WANTED = ("bin/bpfrec", "bin/capture", "ip", "tshark", "dumpcap")
-pytestmark = [pytest.mark.timed, pytest.mark.usefixtures("namespace")]
+pytestmark = [
+    pytest.mark.wanted("bin/bpfrec", "bin/capture", "ip", "tshark", "dumpcap"),
+    pytest.mark.timed,
+    pytest.mark.usefixtures("namespace"),
+]
 FRAMES_OF_A_ROUND = 500
 MANY_PROCESSORS = 4
 

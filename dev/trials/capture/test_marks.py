@@ -30,8 +30,11 @@ from support import (
 )
 from time_marks import SPAN, TICK, begin, frames_of, gaps_of, judge_ended, judge_moments, judge_order, marks_of
 
-WANTED = ("bin/bpfrec", "bin/capture", "ip")
-pytestmark = [pytest.mark.timed, pytest.mark.usefixtures("namespace")]
+pytestmark = [
+    pytest.mark.wanted("bin/bpfrec", "bin/capture", "ip"),
+    pytest.mark.timed,
+    pytest.mark.usefixtures("namespace"),
+]
 LEAST_BETWEEN = 5 * MILLISECOND // TICK
 SHORTEST, LONG = 1, 5_000_000
 

@@ -26,8 +26,11 @@ from support import (
     wait_for,
 )
 
-WANTED = ("bin/bpfrec", "bin/capture", "ip", "objdump")
-pytestmark = [pytest.mark.timed, pytest.mark.usefixtures("namespace")]
+pytestmark = [
+    pytest.mark.wanted("bin/bpfrec", "bin/capture", "ip", "objdump"),
+    pytest.mark.timed,
+    pytest.mark.usefixtures("namespace"),
+]
 # Capabilities, as bits: CAP_NET_RAW; CAP_DAC_OVERRIDE and CAP_DAC_READ_SEARCH.
 NET_RAW, READ_FILES = 1 << 13, 1 << 1 | 1 << 2
 # By which rights are given up, as dev/trials/lib/failing_rights.c names it: capset, PR_SET_NO_NEW_PRIVS and PR_CAP_AMBIENT.

@@ -16,7 +16,7 @@ from namespace import send_together
 from pcapng import capture_head, captured
 from support import ROOT, Reader, Running, judge, judge_quietly, outcome, pipe_at
 
-WANTED = ("bin/bpfrec", "bin/capture", "gcc", "clang", "ip", "tshark", "dumpcap", "tcpdump")
+pytestmark = pytest.mark.wanted("bin/bpfrec", "bin/capture", "gcc", "clang", "ip", "tshark", "dumpcap", "tcpdump")
 CORPUS = ROOT / "capture/fuzz/corpus"
 FUZZ_SECONDS = int(os.environ.get("FUZZ_SECONDS", "60"))
 TRIALS = ROOT / "dev/trials"

@@ -10,8 +10,11 @@ from namespace import send, send_numbered
 from recordings import folder_of
 from support import CAPTURE, Reader, Running, judge, origin_told, pipe_at, run
 
-WANTED = ("bin/capture", "ip", "dumpcap", "tshark")
-pytestmark = [pytest.mark.timed, pytest.mark.usefixtures("namespace")]
+pytestmark = [
+    pytest.mark.wanted("bin/capture", "ip", "dumpcap", "tshark"),
+    pytest.mark.timed,
+    pytest.mark.usefixtures("namespace"),
+]
 SINGLE, COUNT = 200, 2_000
 TICK = 100
 

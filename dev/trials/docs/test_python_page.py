@@ -21,7 +21,7 @@ from recorder import extracted
 from rows import flight_of
 from support import ROOT, judge, judge_quietly, outcome
 
-WANTED = ("bin/bpfrec",)
+pytestmark = pytest.mark.wanted("bin/bpfrec")
 PAGE = ROOT / "docs/user/using/python.md"
 BLOCKS = re.findall(r"^```python\n(.*?)^```$", PAGE.read_text(), re.MULTILINE | re.DOTALL)
 NOON = 1_764_590_400_250_000_000

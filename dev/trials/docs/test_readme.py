@@ -10,7 +10,7 @@ import pytest
 from namespace import send_numbered, set_link
 from support import BPFREC, ROOT, Running, judge, missing, outcome, run, wait_for
 
-WANTED = ("bin/bpfrec",)
+pytestmark = pytest.mark.wanted("bin/bpfrec")
 README = (ROOT / "README.md").read_text()
 UNPROVED = "bin/bpfrec-unproved"
 COUNT = 100
@@ -59,7 +59,7 @@ def test_tshark_shows_the_first_recording_as_readme_says(place: Path) -> None:
 
 def test_the_commands_of_an_interface_run(place: Path, namespace: None) -> None:
     """As root: `sudo` is left out."""
-    if missing(("bin/capture", "ip")) or os.geteuid() != 0:
+    if missing(("bin/capture", "ip", "root")):
         pytest.skip("it needs root, iproute2 and bin/capture")
     found = re.search(r"```sh\nmake capture\nsudo (BPFREC=.*)\n(.*)\n(.*)\n```", README)
     judge("README says how the program is named", NAMES in README)

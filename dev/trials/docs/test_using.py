@@ -26,7 +26,7 @@ from frames import records
 from namespace import make_quiet, run_batch, set_link, socket_into, turn_offloads_off
 from support import ROOT, judge_quietly
 
-WANTED = ("bin/bpfrec",)
+pytestmark = pytest.mark.wanted("bin/bpfrec")
 WANTED_BY = {"live": ("bin/capture", "ip", "ssh-keygen"), "tcpdump": ("tcpdump",), "tshark": ("tshark",)}
 MARK = "== end of a command =="
 FRAMES_A_SECOND = 200

@@ -29,7 +29,9 @@ COMMAND, TOOLS = ROOT / "host/bin/bpfrec", ROOT / "bin/tools"
 LIVE, INFO, EXPORT, SALVAGE, PREFLIGHT = (TOOLS / it for it in ("live", "info", "export", "salvage", "preflight"))
 CHECK, FOLLOW, PUBLISH, RECEIVE, TELL = (TOOLS / it for it in ("check", "follow", "publish", "receive", "tell"))
 CHECK_SUMS = ROOT / "host/second/check_sums"
-# What a trial may want that a build makes, and the packages of programs that are named otherwise.
+# What a trial may want besides programs: to be run by root, and what a build makes; and the packages of programs that
+# are named otherwise.
+ROOT_USER = "root"
 BUILT = {"bin/bpfrec": BPFREC, "bin/capture": CAPTURE}
 PACKAGES = {
     **dict.fromkeys(("capinfos", "dumpcap", "editcap", "mergecap"), "wireshark-common"),
@@ -70,12 +72,19 @@ def judge_quietly(what: str, holds: object, details: object = "") -> None:
         judge(what, holds, details)
 
 
+def is_here(name: str) -> bool:
+    """Whether root is who tries, or a program or what a build makes is there."""
+    if name == ROOT_USER:
+        return os.geteuid() == 0
+    return BUILT[name].exists() if name in BUILT else shutil.which(name) is not None
+
+
 def missing(wanted: Iterable[str]) -> list[str]:
     """What is not here of programs and of what a build makes, each of them with its package or with `make build`."""
-    lacking = [name for name in wanted if not (BUILT[name].exists() if name in BUILT else shutil.which(name))]
-    packages = sorted({PACKAGES.get(name, name) for name in lacking if name not in BUILT})
+    lacking = [name for name in wanted if not is_here(name)]
+    packages = sorted({PACKAGES.get(name, name) for name in lacking if name not in (*BUILT, ROOT_USER)})
     found = [f"{name} (make build)" for name in lacking if name in BUILT]
-    return found + ([f"{' '.join(packages)} (make packages)"] if packages else [])
+    return [*found, *({ROOT_USER} & set(lacking)), *([f"{' '.join(packages)} (make packages)"] if packages else [])]
 
 
 def link_tools() -> None:

@@ -1,7 +1,6 @@
 """What pytest gives to each trial: a folder, a network namespace, and a look at what is missing here."""
 
 import contextlib
-import os
 import shutil
 import signal
 import sys
@@ -47,10 +46,10 @@ def pytest_collection_modifyitems(items: list[pytest.Item]) -> None:
     items.sort(key=lambda item: item.get_closest_marker("timed") is None and item.path.parent.name not in LONGEST)
 
 
-@pytest.fixture(autouse=True, scope="module")
-def at_hand(request: pytest.FixtureRequest) -> None:
-    """Leaves a trial out that needs what isn't here, by what its file names as WANTED."""
-    lacking = support.missing(getattr(request.module, "WANTED", ()))
+@pytest.hookimpl(tryfirst=True)  # type: ignore[misc]
+def pytest_runtest_setup(item: pytest.Item) -> None:
+    """Leaves a trial out that needs what isn't here, by its marks `wanted` and those of its file."""
+    lacking = support.missing(dict.fromkeys(name for mark in item.iter_markers("wanted") for name in mark.args))
     if lacking:
         pytest.skip(f"it needs {', '.join(lacking)}")
 
@@ -146,7 +145,7 @@ def flown(work: Path) -> Iterator[Callable[..., object]]:
 @contextlib.contextmanager
 def entered() -> Iterator[None]:
     """A network namespace while it lasts; what needs it is left out where none can be made."""
-    if os.geteuid() != 0:
+    if support.missing(["root"]):
         pytest.skip("it needs root, for a network namespace")
     with contextlib.ExitStack() as stack:
         try:

@@ -18,8 +18,11 @@ from namespace import send_together
 from recordings import Traffic, begin, extracted, is_approved, judge_parts, nothing_left, processes_of, settings_of
 from support import LIVE, PREFLIGHT, Running, judge, judge_quietly, outcome, wait_for
 
-WANTED = ("bin/bpfrec", "bin/capture", "ip")
-pytestmark = [pytest.mark.timed, pytest.mark.usefixtures("namespace")]
+pytestmark = [
+    pytest.mark.wanted("bin/bpfrec", "bin/capture", "ip"),
+    pytest.mark.timed,
+    pytest.mark.usefixtures("namespace"),
+]
 BEGUN = "begins|clock|-|the clock is not synchronised|"
 DEAF = "trap '' TERM; while :; do sleep 1; done"
 

@@ -14,7 +14,7 @@ from recordings import begin, facts_of, folder_of, is_approved, settings_of_one
 from seen_frames import seen_in
 from support import BPFREC, EXPORT, MILLISECOND, SECOND, Running, judge, judge_quietly, nanoseconds, outcome, run, sums
 
-WANTED = ("bin/bpfrec", "bin/capture", "ip", "tshark")
+pytestmark = pytest.mark.wanted("bin/bpfrec", "bin/capture", "ip", "tshark")
 CHAPTER11 = (EXPORT, "--as=chapter11")
 TAPS, EVENTS = 4, 200
 TICK = 100

@@ -9,8 +9,11 @@ from frames import numbers_in, records
 from recordings import YES, extracted, facts_of, parts_of, recordings, settings_of
 from support import LIVE, MILLISECOND, SECOND, Running, judge, nanoseconds
 
-WANTED = ("bin/bpfrec", "bin/capture", "ip", "cc", "pcap-config")
-pytestmark = [pytest.mark.timed, pytest.mark.usefixtures("namespace")]
+pytestmark = [
+    pytest.mark.wanted("bin/bpfrec", "bin/capture", "ip", "cc", "pcap-config"),
+    pytest.mark.timed,
+    pytest.mark.usefixtures("namespace"),
+]
 YEAR = 31_557_600
 
 

@@ -18,7 +18,7 @@ from namespace import send_numbered
 from recordings import YES, begin, extracted, facts_of, write_settings
 from support import LIVE, PREFLIGHT, SECONDS, TOOLS, Running, judge, judge_quietly, outcome, present
 
-WANTED = ("bin/bpfrec", "bin/capture", "ip", "tcpdump")
+pytestmark = pytest.mark.wanted("bin/bpfrec", "bin/capture", "ip", "tcpdump")
 CONTROL = TOOLS / "tell"
 
 

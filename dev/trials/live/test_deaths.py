@@ -24,8 +24,11 @@ from recordings import (
 )
 from support import BPFREC, CAPTURE, LIVE, Running, judge, judge_quietly, wait_for
 
-WANTED = ("bin/bpfrec", "bin/capture", "ip")
-pytestmark = [pytest.mark.timed, pytest.mark.usefixtures("namespace")]
+pytestmark = [
+    pytest.mark.wanted("bin/bpfrec", "bin/capture", "ip"),
+    pytest.mark.timed,
+    pytest.mark.usefixtures("namespace"),
+]
 # So many drawn moments, and so long what is left may run.
 DRAWN, PATIENCE = 3, 8
 

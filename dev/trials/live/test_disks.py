@@ -25,8 +25,11 @@ from recordings import (
 )
 from support import BPFREC, MEBIBYTE, SECOND, SECONDS, Running, judge, judge_quietly, outcome, present, run, wait_for
 
-WANTED = ("bin/bpfrec", "bin/capture", "ip", "mkfs.ext4", "mount")
-pytestmark = [pytest.mark.timed, pytest.mark.usefixtures("namespace")]
+pytestmark = [
+    pytest.mark.wanted("bin/bpfrec", "bin/capture", "ip", "mkfs.ext4", "mount"),
+    pytest.mark.timed,
+    pytest.mark.usefixtures("namespace"),
+]
 
 # ---- lost power
 

@@ -11,8 +11,10 @@ from namespace import send_together
 from recordings import begin, nothing_left
 from support import judge, judge_quietly, run, wait_for
 
-WANTED = ("bin/bpfrec", "bin/capture", "ip", "cc", "ssh-keygen")
-pytestmark = pytest.mark.usefixtures("namespace")
+pytestmark = [
+    pytest.mark.wanted("bin/bpfrec", "bin/capture", "ip", "cc", "ssh-keygen"),
+    pytest.mark.usefixtures("namespace"),
+]
 
 # Facts take the place of earlier ones: the new ones are on the disk before, and the name is behind.
 FACTS = r"open_new (write_new )+force_data_new rename_facts open_folder force_folder "

@@ -13,8 +13,11 @@ from namespace import send_together
 from recordings import YES, Traffic, begin, facts_of, has_facts, nothing_left, recordings, settings_of
 from support import BPFREC, KEEPS_ALL, LIVE, ROOT, Running, judge, judge_quietly, present, run, wait_for
 
-WANTED = ("bin/bpfrec", "bin/capture", "ip")
-pytestmark = [pytest.mark.timed, pytest.mark.usefixtures("namespace")]
+pytestmark = [
+    pytest.mark.wanted("bin/bpfrec", "bin/capture", "ip"),
+    pytest.mark.timed,
+    pytest.mark.usefixtures("namespace"),
+]
 
 
 def judge_facts(facts: dict, out: Path, settings: Path, filters: list[Path]) -> None:

@@ -20,8 +20,11 @@ from recordings import begin, extracted, facts_of, has_facts, process_of, settin
 from schemas import faults, schema_of
 from support import BPFREC, KEEPS_ALL, SECOND, judge, judge_quietly, nanoseconds, present, run, wait_for
 
-WANTED = ("bin/bpfrec", "bin/capture", "ip", "cc")
-pytestmark = [pytest.mark.timed, pytest.mark.usefixtures("namespace")]
+pytestmark = [
+    pytest.mark.wanted("bin/bpfrec", "bin/capture", "ip", "cc"),
+    pytest.mark.timed,
+    pytest.mark.usefixtures("namespace"),
+]
 # What the kernel says at the beginning and at the end, each time in other units; the clock is set meanwhile.
 AT_BEGIN, AT_END = Kernel(True, 500, 10, 1_250, True, 37), Kernel(False, 16_000_000, 700, -2_500, False, 38)
 STEP = -3600 * SECOND

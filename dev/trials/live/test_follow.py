@@ -22,8 +22,7 @@ from recordings import Traffic, begin, extracted, facts_of, has_open, is_approve
 from support import BPFREC, EXPORT, FOLLOW, judge, judge_quietly, outcome, run, wait_for
 from whole_file_parts import ORIGIN
 
-WANTED = ("bin/bpfrec", "bin/capture", "ip", "tshark")
-pytestmark = [pytest.mark.usefixtures("namespace")]
+pytestmark = [pytest.mark.wanted("bin/bpfrec", "bin/capture", "ip", "tshark"), pytest.mark.usefixtures("namespace")]
 SECONDS = 60
 
 

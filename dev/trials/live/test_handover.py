@@ -18,8 +18,7 @@ from namespace import make_many_pairs, socket_into, wait_until_up
 from recordings import YES, nothing_left, parts_of, recordings
 from support import LIVE, Running, judge, judge_quietly, wait_for
 
-WANTED = ("bin/bpfrec", "bin/capture", "ip")
-pytestmark = pytest.mark.timed
+pytestmark = [pytest.mark.wanted("bin/bpfrec", "bin/capture", "ip"), pytest.mark.timed]
 COUNTS = (1, 2, 12, 64)
 MOMENTS = int(os.environ.get("HANDOVER_MOMENTS", "2"))
 # Measured: 0.2 to 1.7 s, where a machine has twice as many programs to run as it has processors. A run that hangs takes

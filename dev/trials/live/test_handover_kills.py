@@ -22,8 +22,7 @@ from namespace import make_many_pairs, socket_into, wait_until_up
 from recordings import begin, is_recording, nothing_left, parts_of, recordings, runs, write_settings
 from support import BPFREC, SECONDS, Running, judge, judge_quietly, wait_for
 
-WANTED = ("bin/bpfrec", "bin/capture", "ip")
-pytestmark = pytest.mark.timed
+pytestmark = [pytest.mark.wanted("bin/bpfrec", "bin/capture", "ip"), pytest.mark.timed]
 COUNTS = (1, 2, 12)
 KILLS = int(os.environ.get("HANDOVER_KILLS", "2"))
 # Frames that were sent within this time behind a recorder's death may be in its pipe, in seconds.

@@ -15,8 +15,11 @@ from recordings import RUN, YES, begin, extracted, facts_of, judge_parts, proces
 from served import address_in, status_of
 from support import BPFREC, CAPTURE, INFO, NOBODY, ROOT, Running, judge, judge_quietly, outcome, wait_for
 
-WANTED = ("bin/bpfrec", "bin/capture", "ip", "cc", "pcap-config", "setcap")
-pytestmark = [pytest.mark.timed, pytest.mark.usefixtures("namespace")]
+pytestmark = [
+    pytest.mark.wanted("bin/bpfrec", "bin/capture", "ip", "cc", "pcap-config", "setcap"),
+    pytest.mark.timed,
+    pytest.mark.usefixtures("namespace"),
+]
 GONE = "bpfrec capture: rx0: the interface is gone, and is taken again once it is back\n"
 BACK = "bpfrec capture: rx0: it is back\n"
 MEMBERS = 4_242

@@ -23,8 +23,11 @@ from recordings import (
 )
 from support import BPFREC, CAPTURE, Running, judge, judge_quietly, outcome, wait_for
 
-WANTED = ("bin/bpfrec", "bin/capture", "ip")
-pytestmark = [pytest.mark.timed, pytest.mark.usefixtures("namespace")]
+pytestmark = [
+    pytest.mark.wanted("bin/bpfrec", "bin/capture", "ip"),
+    pytest.mark.timed,
+    pytest.mark.usefixtures("namespace"),
+]
 PAUSE = 0.5
 WANTED_KILLED = [(it, "failed", None) for it in ("rx0", "rx1")]
 

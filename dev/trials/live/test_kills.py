@@ -26,8 +26,11 @@ from recordings import (
 )
 from support import BPFREC, CAPTURE, LIVE, Running, judge, judge_quietly, outcome, wait_for
 
-WANTED = ("bin/bpfrec", "bin/capture", "ip")
-pytestmark = [pytest.mark.timed, pytest.mark.usefixtures("namespace")]
+pytestmark = [
+    pytest.mark.wanted("bin/bpfrec", "bin/capture", "ip"),
+    pytest.mark.timed,
+    pytest.mark.usefixtures("namespace"),
+]
 TURNS, AT_ONCE, PATIENCE, PAUSE = 100, 4, 10, 0.4
 # A blow before this many seconds comes as the run starts, and later ones are counted from when it captures.
 LATE = 0.5

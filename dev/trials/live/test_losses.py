@@ -13,8 +13,11 @@ from namespace import long_frames, make_many_pairs, send, send_numbered, send_to
 from recordings import begin, extracted, facts_of, is_recording, process_of, recordings, write_settings
 from support import BPFREC, CAPTURE, LIVE, MEBIBYTE, Reader, Running, judge, pipe_at, run, wait_for
 
-WANTED = ("bin/bpfrec", "bin/capture", "ip")
-pytestmark = [pytest.mark.timed, pytest.mark.usefixtures("namespace")]
+pytestmark = [
+    pytest.mark.wanted("bin/bpfrec", "bin/capture", "ip"),
+    pytest.mark.timed,
+    pytest.mark.usefixtures("namespace"),
+]
 PAIRS = 64
 # Of a frame with an odd number, by the last of its eight bytes.
 KEEPS_ODD = "ldb [21]\njset #1, keep, drop\nkeep: ret #1\ndrop: ret #0\n"

@@ -28,8 +28,7 @@ from recordings import (
 from schemas import faults, schema_of
 from support import EXPORT, FOLLOW, LIVE, Running, judge, judge_quietly, outcome, present, run, wait_for
 
-WANTED = ("bin/bpfrec", "bin/capture", "ip", "tcpdump")
-pytestmark = [pytest.mark.usefixtures("namespace")]
+pytestmark = [pytest.mark.wanted("bin/bpfrec", "bin/capture", "ip", "tcpdump"), pytest.mark.usefixtures("namespace")]
 # Half a second, in ticks.
 NEAR = 5 * 10**6
 ANSWER = re.compile(r"^marked (\d+) (\S+Z)(?: in (.*))?$", re.MULTILINE)

@@ -12,8 +12,11 @@ from namespace import send_numbered
 from recordings import begin, extracted, facts_of
 from support import CAPTURE, MILLISECOND, SECOND, Running, judge, judge_quietly, nanoseconds, wait_for
 
-WANTED = ("bin/bpfrec", "bin/capture", "ip", "cc")
-pytestmark = [pytest.mark.timed, pytest.mark.usefixtures("namespace")]
+pytestmark = [
+    pytest.mark.wanted("bin/bpfrec", "bin/capture", "ip", "cc"),
+    pytest.mark.timed,
+    pytest.mark.usefixtures("namespace"),
+]
 # The time after which counters begin at 0 again.
 TURN = 2**48 * 100
 NEW_YEAR_2025 = 1_735_689_600 * SECOND

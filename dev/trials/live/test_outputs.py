@@ -15,8 +15,11 @@ from namespace import send_together
 from recordings import YES, begin, extracted, facts_of, nothing_left, settings_of
 from support import LIVE, Running, fill_pipe, judge, judge_quietly, wait_for
 
-WANTED = ("bin/bpfrec", "bin/capture", "ip", "cc")
-pytestmark = [pytest.mark.timed, pytest.mark.usefixtures("namespace")]
+pytestmark = [
+    pytest.mark.wanted("bin/bpfrec", "bin/capture", "ip", "cc"),
+    pytest.mark.timed,
+    pytest.mark.usefixtures("namespace"),
+]
 MANY = 20_000
 F_SETPIPE_SZ = 1031
 CTRL_S, CTRL_Q = b"\x13", b"\x11"

@@ -12,8 +12,11 @@ from namespace import send_together
 from recordings import YES, Traffic, begin, extracted, facts_of, is_approved, judge_parts, parts_of, recordings
 from support import BPFREC, SECOND, Running, judge, present, run, wait_for
 
-WANTED = ("bin/bpfrec", "bin/capture", "ip", "cc", "pcap-config")
-pytestmark = [pytest.mark.timed, pytest.mark.usefixtures("namespace")]
+pytestmark = [
+    pytest.mark.wanted("bin/bpfrec", "bin/capture", "ip", "cc", "pcap-config"),
+    pytest.mark.timed,
+    pytest.mark.usefixtures("namespace"),
+]
 
 # ---- recordings that follow one another
 

@@ -12,8 +12,11 @@ from recordings import RUN, begin, extracted, nothing_left, processes_of, settin
 from service import Manager
 from support import LIVE, Reader, Running, judge, pipe_at, wait_for
 
-WANTED = ("bin/bpfrec", "bin/capture", "ip")
-pytestmark = [pytest.mark.timed, pytest.mark.usefixtures("namespace")]
+pytestmark = [
+    pytest.mark.wanted("bin/bpfrec", "bin/capture", "ip"),
+    pytest.mark.timed,
+    pytest.mark.usefixtures("namespace"),
+]
 COUNT = 1_000
 
 

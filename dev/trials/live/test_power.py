@@ -22,8 +22,11 @@ from observed import OBSERVED
 from recordings import RUN, YES, Traffic, write_settings
 from support import BPFREC, MEBIBYTE, Running, judge, judge_quietly, outcome, run
 
-WANTED = ("bin/bpfrec", "bin/capture", "ip", "mkfs.ext4", "mount")
-pytestmark = [pytest.mark.timed, pytest.mark.usefixtures("namespace")]
+pytestmark = [
+    pytest.mark.wanted("bin/bpfrec", "bin/capture", "ip", "mkfs.ext4", "mount"),
+    pytest.mark.timed,
+    pytest.mark.usefixtures("namespace"),
+]
 CUTS, LIMIT = 50, 16_424
 
 

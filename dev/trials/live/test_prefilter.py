@@ -20,8 +20,7 @@ from namespace import make_many_pairs, socket_into, wait_until_up
 from recordings import YES, extracted, folder_of
 from support import BPFREC, LIVE, Running, judge, judge_quietly, outcome, run, wait_for
 
-WANTED = ("bin/bpfrec", "bin/capture", "ip", "tcpdump")
-pytestmark = pytest.mark.timed
+pytestmark = [pytest.mark.wanted("bin/bpfrec", "bin/capture", "ip", "tcpdump"), pytest.mark.timed]
 EXPRESSIONS = {
     "tcpdump: udp port 53": "udp port 53",
     "tcpdump: vlan": "vlan",

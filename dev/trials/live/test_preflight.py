@@ -11,8 +11,7 @@ from namespace import set_link
 from recordings import begin, facts_of, nothing_left, settings_of, write_settings
 from support import LIVE, NOBODY, TOOLS, Running, judge, judge_quietly, outcome, run
 
-WANTED = ("bin/bpfrec", "bin/capture", "ip", "tcpdump")
-pytestmark = pytest.mark.usefixtures("namespace")
+pytestmark = [pytest.mark.wanted("bin/bpfrec", "bin/capture", "ip", "tcpdump"), pytest.mark.usefixtures("namespace")]
 PREFLIGHT = TOOLS / "preflight"
 
 

@@ -10,8 +10,11 @@ from namespace import long_frames, send_numbered, send_together
 from recordings import YES, begin, facts_of, nothing_left, process_of, settings_of
 from support import BPFREC, judge, wait_for
 
-WANTED = ("bin/bpfrec", "bin/capture", "ip", "mount")
-pytestmark = [pytest.mark.timed, pytest.mark.usefixtures("namespace")]
+pytestmark = [
+    pytest.mark.wanted("bin/bpfrec", "bin/capture", "ip", "mount"),
+    pytest.mark.timed,
+    pytest.mark.usefixtures("namespace"),
+]
 
 
 def fill(disk: Path) -> None:

@@ -28,8 +28,7 @@ from support import LIVE, PREFLIGHT, PUBLISH, ROOT, judge, judge_quietly, outcom
 from whole_file import Origin, Setup
 from whole_file_parts import ORIGIN, SAMPLE_SETUP, parts_of, recorded, sample_recording
 
-WANTED = ("bin/bpfrec", "bin/capture", "ip")
-pytestmark = [pytest.mark.usefixtures("namespace")]
+pytestmark = [pytest.mark.wanted("bin/bpfrec", "bin/capture", "ip"), pytest.mark.usefixtures("namespace")]
 PAGE = ROOT / "docs/user/formats/whole_file.md"
 
 

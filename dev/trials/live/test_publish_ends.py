@@ -29,8 +29,7 @@ from support import LIVE, PUBLISH, TELL, Running, judge, judge_quietly, present,
 from whole_file import SETUP, TIME
 from whole_file_parts import parts_of
 
-WANTED = ("bin/bpfrec", "bin/capture", "ip")
-pytestmark = [pytest.mark.usefixtures("namespace")]
+pytestmark = [pytest.mark.wanted("bin/bpfrec", "bin/capture", "ip"), pytest.mark.usefixtures("namespace")]
 
 
 def has_more(station: Station, count: int) -> bool:

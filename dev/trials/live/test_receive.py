@@ -18,8 +18,7 @@ from support import BPFREC, RECEIVE, judge, judge_quietly, outcome, wait_for
 from whole_file import SETUP
 from whole_file_parts import parts_of
 
-WANTED = ("bin/bpfrec", "ip")
-pytestmark = [pytest.mark.usefixtures("namespace")]
+pytestmark = [pytest.mark.wanted("bin/bpfrec", "ip"), pytest.mark.usefixtures("namespace")]
 
 
 @pytest.mark.parametrize("seed", [1, 2, 3])

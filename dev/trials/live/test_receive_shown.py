@@ -13,8 +13,7 @@ from rows import printed
 from support import RECEIVE, judge, judge_quietly, outcome, wait_for
 from whole_file_parts import ORIGIN, parts_of
 
-WANTED = ("bin/bpfrec", "ip", "tshark")
-pytestmark = [pytest.mark.usefixtures("namespace")]
+pytestmark = [pytest.mark.wanted("bin/bpfrec", "ip", "tshark"), pytest.mark.usefixtures("namespace")]
 FIELDS = [word for it in ("interface_name", "time_epoch", "len") for word in ("-e", f"frame.{it}")]
 
 

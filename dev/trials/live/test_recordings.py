@@ -29,8 +29,11 @@ from support import (
     present,
 )
 
-WANTED = ("bin/bpfrec", "bin/capture", "ip")
-pytestmark = [pytest.mark.timed, pytest.mark.usefixtures("namespace")]
+pytestmark = [
+    pytest.mark.wanted("bin/bpfrec", "bin/capture", "ip"),
+    pytest.mark.timed,
+    pytest.mark.usefixtures("namespace"),
+]
 FRAMES = 5_000
 
 # ---- live recordings

@@ -11,8 +11,11 @@ from namespace import send_together
 from recordings import RUN, extracted, facts_of, nothing_left, processes_of, settings_of, write_settings
 from support import LIVE, PREFLIGHT, ROOT, Running, judge, judge_quietly, outcome, wait_for
 
-WANTED = ("bin/bpfrec", "bin/capture", "ip", "tcpdump")
-pytestmark = [pytest.mark.timed, pytest.mark.usefixtures("namespace")]
+pytestmark = [
+    pytest.mark.wanted("bin/bpfrec", "bin/capture", "ip", "tcpdump"),
+    pytest.mark.timed,
+    pytest.mark.usefixtures("namespace"),
+]
 TEXT_FOR_ASM = ROOT / "examples/filters/arp.bpf"
 IN_SECONDS, IN_PARTS, IN_BYTES = "in seconds, or as 10m", "in seconds, or as 100ms, or 0", "in bytes, or as 2G"
 

@@ -14,8 +14,11 @@ from namespace import send_numbered
 from recordings import YES, Traffic, begin, extracted, facts_of, nothing_left, parts_of, recordings, settings_of
 from support import BPFREC, LIVE, ROOT, Running, judge, judge_quietly, run, wait_for
 
-WANTED = ("bin/bpfrec", "bin/capture", "ip", "mount")
-pytestmark = [pytest.mark.timed, pytest.mark.usefixtures("namespace")]
+pytestmark = [
+    pytest.mark.wanted("bin/bpfrec", "bin/capture", "ip", "mount"),
+    pytest.mark.timed,
+    pytest.mark.usefixtures("namespace"),
+]
 REMOVED = re.compile(r"bpfrec live: (\S+) was removed: (.*)\n")
 
 # ---- a ring

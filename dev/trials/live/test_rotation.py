@@ -12,8 +12,11 @@ from recorder import extracted
 from recordings import YES, judge_parts, nothing_left, parts_of, recordings, settings_of, write_settings
 from support import BPFREC, DROPS_ALL, EXPORT, KEEPS_ALL, LIVE, SECONDS, Running, judge, judge_quietly, outcome, sums
 
-WANTED = ("bin/bpfrec", "bin/capture", "ip", "mount")
-pytestmark = [pytest.mark.timed, pytest.mark.usefixtures("namespace")]
+pytestmark = [
+    pytest.mark.wanted("bin/bpfrec", "bin/capture", "ip", "mount"),
+    pytest.mark.timed,
+    pytest.mark.usefixtures("namespace"),
+]
 FRAMES = 5_000
 
 # ---- under traffic

@@ -19,8 +19,11 @@ from rows import printed
 from seen_frames import made, seen_in
 from support import CAPTURE, INFO, MILLISECOND, SECOND, Reader, Running, judge, pipe_at, run, wait_for
 
-WANTED = ("bin/bpfrec", "bin/capture", "ip", "cc", "pcap-config", "tshark", "editcap")
-pytestmark = [pytest.mark.timed, pytest.mark.usefixtures("namespace")]
+pytestmark = [
+    pytest.mark.wanted("bin/bpfrec", "bin/capture", "ip", "cc", "pcap-config", "tshark", "editcap"),
+    pytest.mark.timed,
+    pytest.mark.usefixtures("namespace"),
+]
 FRAMES = 30
 TAI = {"scale": "TAI", "tai_offset": 37}
 # By how many seconds the adapter's clock is ahead, and what the facts say then.

@@ -14,7 +14,7 @@ from recordings import begin, facts_of, has_facts, processes_of, settings_of
 from schemas import FORMATS, faults, schema_of
 from support import judge, judge_quietly, present, wait_for
 
-WANTED = ("bin/bpfrec", "bin/capture", "ip")
+pytestmark = pytest.mark.wanted("bin/bpfrec", "bin/capture", "ip")
 
 
 def judge_schema(what: str, facts: dict) -> None:

@@ -15,8 +15,7 @@ from recordings import RUN, YES, begin, extracted, process_of, settings_of
 from service import Manager
 from support import BPFREC, CAPTURE, LIVE, NOBODY, ROOT, Running, judge, outcome, wait_for
 
-WANTED = ("bin/bpfrec", "bin/capture", "ip", "setpriv")
-pytestmark = pytest.mark.timed
+pytestmark = [pytest.mark.wanted("bin/bpfrec", "bin/capture", "ip", "setpriv"), pytest.mark.timed]
 UNIT = ROOT / "examples/bpfrec.service"
 
 

@@ -28,8 +28,11 @@ from recordings import (
 )
 from support import LIVE, Running, judge, judge_quietly, wait_for
 
-WANTED = ("bin/bpfrec", "bin/capture", "ip")
-pytestmark = [pytest.mark.timed, pytest.mark.usefixtures("namespace")]
+pytestmark = [
+    pytest.mark.wanted("bin/bpfrec", "bin/capture", "ip"),
+    pytest.mark.timed,
+    pytest.mark.usefixtures("namespace"),
+]
 WATCHES = Path("/proc/sys/fs/inotify/max_user_instances")
 
 

@@ -31,7 +31,7 @@ from signing import (
 )
 from support import judge, judge_quietly, run, sums
 
-WANTED = ("bin/bpfrec", "bin/capture", "ip", "ssh-keygen", "ssh-agent")
+pytestmark = pytest.mark.wanted("bin/bpfrec", "bin/capture", "ip", "ssh-keygen", "ssh-agent")
 # Where a numbered frame has the last byte of its number.
 NUMBER_AT = len(HEAD) + 7
 

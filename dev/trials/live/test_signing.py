@@ -27,7 +27,7 @@ from signing import (
 )
 from support import BPFREC, INFO, LIVE, PREFLIGHT, TOOLS, Running, judge, judge_quietly, outcome, run, wait_for
 
-WANTED = ("bin/bpfrec", "bin/capture", "ip", "ssh-keygen", "ssh-agent")
+pytestmark = pytest.mark.wanted("bin/bpfrec", "bin/capture", "ip", "ssh-keygen", "ssh-agent")
 PASSPHRASE = "a passphrase of a trial"
 
 

@@ -20,9 +20,12 @@ from recordings import (
 )
 from support import BPFREC, Running, judge, judge_quietly, outcome, present, wait_for
 
-WANTED = ("bin/bpfrec", "bin/capture", "ip")
+pytestmark = [
+    pytest.mark.wanted("bin/bpfrec", "bin/capture", "ip"),
+    pytest.mark.timed,
+    pytest.mark.usefixtures("namespace"),
+]
 
-pytestmark = [pytest.mark.timed, pytest.mark.usefixtures("namespace")]
 MOST_VERSIONS, MOST_UNANSWERED = 1_024, 128
 
 

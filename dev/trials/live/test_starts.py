@@ -14,8 +14,11 @@ from recordings import RUN, YES, extracted, folder_of, is_recording, nothing_lef
 from support import LIVE, Running, judge, wait_for
 from terminal import Terminal
 
-WANTED = ("bin/bpfrec", "bin/capture", "ip")
-pytestmark = [pytest.mark.timed, pytest.mark.usefixtures("namespace")]
+pytestmark = [
+    pytest.mark.wanted("bin/bpfrec", "bin/capture", "ip"),
+    pytest.mark.timed,
+    pytest.mark.usefixtures("namespace"),
+]
 
 
 class Start:

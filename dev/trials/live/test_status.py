@@ -16,8 +16,11 @@ from recordings import Traffic, begin, is_approved, nothing_left, process_of, se
 from served import address_in, asked, status_of
 from support import CAPTURE, LIVE, Running, judge, judge_quietly, wait_for
 
-WANTED = ("bin/bpfrec", "bin/capture", "ip")
-pytestmark = [pytest.mark.timed, pytest.mark.usefixtures("namespace")]
+pytestmark = [
+    pytest.mark.wanted("bin/bpfrec", "bin/capture", "ip"),
+    pytest.mark.timed,
+    pytest.mark.usefixtures("namespace"),
+]
 
 
 def is_near(moment: str) -> bool:

@@ -15,7 +15,7 @@ from scripted import PAGE, Wire, wires_of
 from status_pages import CHANNELS, DESKTOP, PHONE, PICTURES, TOO_WIDE, WALL, WORD, opened
 from support import judge, judge_quietly
 
-WANTED = ("chromium",)
+pytestmark = pytest.mark.wanted("chromium")
 LONG_NAME = "enp130s0f1np1-alternative-name-of-an-interface-of-the-left-wing.100"
 STATES = "[...document.querySelectorAll('.channel')].map(it => [it.className, it.querySelector('.state').textContent])"
 

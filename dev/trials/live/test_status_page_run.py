@@ -10,7 +10,7 @@ from scripted import Flight, Marked, Wire, wires_of
 from status_pages import DESKTOP, PHONE, PICTURES, TOO_WIDE, WALL, opened
 from support import judge
 
-WANTED = ("chromium",)
+pytestmark = pytest.mark.wanted("chromium")
 LONG = "udp port 5004 and net 192.0.2.0/24 and not host 192.0.2.77 or " + "ether host 02:00:00:00:00:01 or " * 5 + "arp"
 FILTERS = (
     "[...document.querySelectorAll('.filter')].map(it => [it.querySelector('b').textContent, it.lastChild.textContent])"

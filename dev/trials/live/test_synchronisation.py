@@ -13,8 +13,11 @@ from recordings import begin, facts_of, is_approved, nothing_left, settings_of
 from served import address_in, asked, status_of
 from support import INFO, LIVE, PREFLIGHT, Running, judge, judge_quietly, outcome, run, wait_for
 
-WANTED = ("bin/bpfrec", "bin/capture", "ip")
-pytestmark = [pytest.mark.timed, pytest.mark.usefixtures("namespace")]
+pytestmark = [
+    pytest.mark.wanted("bin/bpfrec", "bin/capture", "ip"),
+    pytest.mark.timed,
+    pytest.mark.usefixtures("namespace"),
+]
 RIGHT = "bpfrec live: clock: synchronised, off by at most 0.000500 s\n"
 WRONG = "bpfrec live: clock: not synchronised: --require-clock: the clock is not synchronised\n"
 

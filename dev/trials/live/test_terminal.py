@@ -26,8 +26,11 @@ from recordings import (
 from support import BPFREC, CAPTURE, LIVE, Running, fill_pipe, judge, judge_quietly, wait_for
 from terminal import Terminal
 
-WANTED = ("bin/bpfrec", "bin/capture", "ip")
-pytestmark = [pytest.mark.timed, pytest.mark.usefixtures("namespace")]
+pytestmark = [
+    pytest.mark.wanted("bin/bpfrec", "bin/capture", "ip"),
+    pytest.mark.timed,
+    pytest.mark.usefixtures("namespace"),
+]
 CTRL_C, CTRL_Z = b"\x03", b"\x1a"
 
 

@@ -13,8 +13,11 @@ from recordings import YES, Traffic, begin, facts_of, has_facts, is_approved, no
 from schemas import faults, schema_of
 from support import LIBRARY, Running, judge, present, shared_library, wait_for
 
-WANTED = ("bin/bpfrec", "bin/capture", "ip", "cc")
-pytestmark = [pytest.mark.timed, pytest.mark.usefixtures("namespace")]
+pytestmark = [
+    pytest.mark.wanted("bin/bpfrec", "bin/capture", "ip", "cc"),
+    pytest.mark.timed,
+    pytest.mark.usefixtures("namespace"),
+]
 # More calls than a trial makes.
 ALL = 1_000_000
 

@@ -14,8 +14,11 @@ from recordings import Traffic, begin, extracted, is_approved, nothing_left, par
 from second_opinion import opinion_at
 from support import BPFREC, LIVE, Running, judge, judge_quietly, wait_for
 
-WANTED = ("bin/bpfrec", "bin/capture", "ip")
-pytestmark = [pytest.mark.timed, pytest.mark.usefixtures("namespace")]
+pytestmark = [
+    pytest.mark.wanted("bin/bpfrec", "bin/capture", "ip"),
+    pytest.mark.timed,
+    pytest.mark.usefixtures("namespace"),
+]
 MADE = re.compile(r"bpfrec live: (\S+): times \d+ packets \d+ records \d+ index \d+ bytes \d+\n")
 
 

@@ -11,8 +11,7 @@ from namespace import socket_into
 from recordings import Traffic, begin, extracted, facts_of, is_approved, parts_of, recordings, write_settings
 from support import INFO, LIVE, PREFLIGHT, Running, judge, judge_quietly, outcome, wait_for
 
-WANTED = ("bin/bpfrec", "bin/capture", "ip", "tcpdump")
-pytestmark = [pytest.mark.usefixtures("namespace")]
+pytestmark = [pytest.mark.wanted("bin/bpfrec", "bin/capture", "ip", "tcpdump"), pytest.mark.usefixtures("namespace")]
 UDP = bytes.fromhex("020000000002 020000000001 0800 45000020 0001 0000 4011 0000 0a000001 0a000002")
 
 

@@ -3,9 +3,10 @@ alone; `make fuzz` takes an hour."""
 
 import sys
 
+import pytest
 from support import BPFREC, LONG, judge, outcome
 
-WANTED = ("bin/bpfrec", "time")
+pytestmark = pytest.mark.wanted("bin/bpfrec", "time")
 SECONDS, DRAWN = 60, 600
 
 

@@ -2,9 +2,10 @@
 
 import sys
 
+import pytest
 from support import LONG, judge, outcome
 
-WANTED = ("bin/bpfrec",)
+pytestmark = pytest.mark.wanted("bin/bpfrec")
 SECONDS = 180
 
 

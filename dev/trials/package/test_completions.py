@@ -13,7 +13,7 @@ import pytest
 from bpfrec_tools import verbs
 from support import COMMAND, ROOT, judge, outcome
 
-WANTED = ("zsh", "fish")
+pytestmark = pytest.mark.wanted("zsh", "fish")
 COMPLETIONS = ROOT / "dev/package/completions"
 SECONDS = 10
 Offers = Callable[[Path, str], set[str]]

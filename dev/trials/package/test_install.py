@@ -21,7 +21,7 @@ from typing import Any
 import help_texts
 from bpfrec_tools import VERSION, verbs
 
-WANTED = ("bin/bpfrec", "man", "mandoc", "dpkg-deb", "tshark")
+pytestmark = pytest.mark.wanted("bin/bpfrec", "man", "mandoc", "dpkg-deb", "tshark")
 PAGES = sorted((ROOT / "bin/man").glob("*.1"))
 SETTINGS = '[[channel]]\nid = 1\nfeed = "one.feed"\nfilter = "all"\n'
 FACTS = '{"facts": 1, "host": "fc1", "origins": [{"origin": "1764590400.250000000", "counter": 0}], "losses": []}'

@@ -2,9 +2,10 @@
 
 import re
 
+import pytest
 from support import ROOT, judge, run
 
-WANTED = ("bin/bpfrec", "bin/capture")
+pytestmark = pytest.mark.wanted("bin/bpfrec", "bin/capture")
 
 
 def test_each_linked_library_is_named_with_its_licence() -> None:

@@ -10,7 +10,7 @@ from pythons import PROMISED, interpreter
 from recorder import RECORDINGS
 from support import ROOT, judge, judge_quietly, outcome
 
-WANTED = ("bin/bpfrec", "dpkg-deb")
+pytestmark = pytest.mark.wanted("bin/bpfrec", "dpkg-deb")
 NAME = "python3-bpfrec"
 FOLDER = "usr/lib/python3/dist-packages"
 PATIENCE = 120

@@ -12,7 +12,7 @@ from frames import COMPUTER, FRAMES, HEADER_LENGTH, PROGRAM, end_data, insns_of,
 from reading import packets_of, salvaged
 from support import BPFREC, judge, outcome
 
-WANTED = ("bin/bpfrec",)
+pytestmark = pytest.mark.wanted("bin/bpfrec")
 MOST_ETHERNET = 524_288
 FRAME = b"\xff" * 18
 

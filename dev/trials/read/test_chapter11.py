@@ -17,7 +17,7 @@ from whole_file import Origin, Setup
 from whole_file_parts import recorded
 from whole_file_trials import chapter11, judge_file
 
-WANTED = ("bin/bpfrec",)
+pytestmark = pytest.mark.wanted("bin/bpfrec")
 SECOND, DAY = 10_000_000, 86_400
 LAST_COUNTER = 2**48 - 1
 # 2025-12-01 12:00:00.250000123, and the sum of the file of the recording of 248 bytes with this origin.

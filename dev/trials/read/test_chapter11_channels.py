@@ -3,10 +3,11 @@
 import resource
 from pathlib import Path
 
+import pytest
 from frames import body_of, packet_of
 from support import BPFREC, judge, run
 
-WANTED = ("bin/bpfrec",)
+pytestmark = pytest.mark.wanted("bin/bpfrec")
 PATIENCE = 240
 FRAMES = 0x68
 FEW, TIMES = 2_000, 16

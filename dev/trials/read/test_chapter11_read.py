@@ -12,7 +12,7 @@ from rows import expected_rows, flight_of, printed, rows_of
 from support import BPFREC, SALVAGE, judge, judge_quietly, outcome, run, sums
 from whole_file_trials import chapter11
 
-WANTED = ("bin/bpfrec", "tshark")
+pytestmark = pytest.mark.wanted("bin/bpfrec", "tshark")
 SETUP = 'origin = "1764590400.250000123"\n'
 ORIGIN_TICKS = 1764590400_2500001
 

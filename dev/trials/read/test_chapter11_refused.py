@@ -14,7 +14,7 @@ from support import BPFREC, judge, judge_quietly, outcome
 from whole_file import Origin, Setup
 from whole_file_trials import chapter11, judge_file, write_inputs
 
-WANTED = ("bin/bpfrec",)
+pytestmark = pytest.mark.wanted("bin/bpfrec")
 SECOND = 10_000_000
 YEAR_4000 = 64_060_588_800 * 10**9
 LEAST = 'origin = "0"\n'

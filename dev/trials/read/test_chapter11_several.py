@@ -18,7 +18,7 @@ from several_recorders import facts_by, recording_at, run_at
 from support import BPFREC, EXPORT, judge, judge_quietly, outcome, sums
 from whole_file_parts import recorded
 
-WANTED = ("bin/bpfrec",)
+pytestmark = pytest.mark.wanted("bin/bpfrec")
 CHAPTER11 = (EXPORT, "--as=chapter11")
 # A second, in ticks of the counter, and the moment of counter 0 of most recorders.
 SECOND, MOMENT = 10_000_000, 1_764_590_400

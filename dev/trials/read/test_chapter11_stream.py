@@ -20,7 +20,7 @@ from support import BPFREC, judge, judge_quietly, outcome
 from whole_file import Origin, Refused, Setup
 from whole_file_trials import setup_text
 
-WANTED = ("bin/bpfrec",)
+pytestmark = pytest.mark.wanted("bin/bpfrec")
 SECOND = 10_000_000
 ORIGIN = 1_764_590_400_250_000_123
 YEAR_4000 = 64_060_588_800 * 10**9

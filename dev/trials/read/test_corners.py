@@ -14,7 +14,7 @@ from reading import facts_of
 from rows import printed, rows_of
 from support import BPFREC, CAPTURE, EXPORT, INFO, judge, judge_quietly, outcome, run
 
-WANTED = ("bin/bpfrec", "bin/capture", "tshark")
+pytestmark = pytest.mark.wanted("bin/bpfrec", "bin/capture", "tshark")
 # The times of a capture: nanoseconds of 64 bits since 1970.
 MOST_UNITS = 2**64
 

@@ -22,7 +22,7 @@ from recorder import RECORDINGS
 from rows import AS_ROOT, TICKS_A_SECOND, drawn_recording, flight_of, seconds_of
 from support import BPFREC, judge, judge_quietly, outcome, present, run
 
-WANTED = ("bin/bpfrec", "tshark", "capinfos", "tcpdump", "scapy")
+pytestmark = pytest.mark.wanted("bin/bpfrec", "tshark", "capinfos", "tcpdump", "scapy")
 # Prints the time of each packet of a capture in units, the units of a second, and its bytes.
 SCAPY = """
 import logging, sys

@@ -8,7 +8,7 @@ from pathlib import Path
 import pytest
 from support import BPFREC, ROOT, judge
 
-WANTED = ("bin/bpfrec",)
+pytestmark = pytest.mark.wanted("bin/bpfrec")
 OLD = ROOT / "examples" / "old.ch11"
 
 

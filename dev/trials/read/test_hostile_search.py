@@ -12,7 +12,7 @@ from reading import facts_of, salvaged
 from rows import rows_of
 from support import INFO, MEBIBYTE, SALVAGE, judge, outcome
 
-WANTED = ("bin/bpfrec", "tshark")
+pytestmark = pytest.mark.wanted("bin/bpfrec", "tshark")
 OTHER = 0x30
 LENGTH, SHORT_LENGTH = 8_000_000, 1_000_000
 # On a quiet machine each takes less than ten seconds, and before the search was linear minutes.

@@ -16,7 +16,7 @@ from reading import SAMPLES, facts_of, recording_of_three
 from sample_feeds import capture_of
 from support import BPFREC, INFO, judge, judge_quietly, outcome, run
 
-WANTED = ("bin/bpfrec", "capinfos", "tshark")
+pytestmark = pytest.mark.wanted("bin/bpfrec", "capinfos", "tshark")
 # A second in a recording's ticks.
 TICKS = 10**7
 # By chance a body without its first four bytes can be one again; of these it never is.

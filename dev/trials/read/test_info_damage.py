@@ -12,7 +12,7 @@ from frames import end_packet, frames_packet, numbered, program_packet, sum_of, 
 from reading import SAMPLES, SEED, BlockSums, facts_of, packets_of, recording_of_three, salvaged
 from support import BPFREC, INFO, SALVAGE, judge, judge_quietly, outcome, run
 
-WANTED = ("bin/bpfrec", "cc")
+pytestmark = pytest.mark.wanted("bin/bpfrec", "cc")
 DAMAGED = 1_000
 
 with_or_without_sums = pytest.mark.parametrize("is_summed", [False, True], ids=["without_sums", "with_sums"])

@@ -29,7 +29,7 @@ from expected_facts import (
 from reading import SEED, as_json, audit_of, json_of, page_parts, put_beside, read, text_parts
 from support import INFO, judge, judge_quietly, outcome, present, run
 
-WANTED = ("bin/bpfrec",)
+pytestmark = pytest.mark.wanted("bin/bpfrec")
 DAMAGED, BY_PROCESS = 1_500, 40
 # What info says of the second sample without facts.
 WITHOUT_FACTS = """\

@@ -13,7 +13,7 @@ from bpfrec.formats.packet import word_sum
 from frames import FRAMES, HEADER_LENGTH, body_of, end_packet, header_of, packet_of, program_packet
 from support import BPFREC, INFO, SALVAGE, judge, outcome, run
 
-WANTED = ("bin/bpfrec", "time")
+pytestmark = pytest.mark.wanted("bin/bpfrec", "time")
 MEGABYTES = int(os.environ.get("MEGABYTES", "1000"))
 LIMIT = 65_536
 # Processor time alone: other work on the machine doesn't count.

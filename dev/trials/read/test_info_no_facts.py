@@ -9,7 +9,7 @@ import pytest
 from expected_facts import THREE_ORIGINS, are_facts, facts_of_run
 from support import INFO, MEBIBYTE, judge, outcome, run
 
-WANTED = ("bin/bpfrec",)
+pytestmark = pytest.mark.wanted("bin/bpfrec")
 GOOD = facts_of_run(THREE_ORIGINS, [(1, 2, 3)])
 NO_JSON = "it is no JSON that can be read"
 NO_SECONDS = "isn't seconds with nine digits behind the point"

@@ -12,7 +12,7 @@ import pytest
 from drawn_recording import TICKS, Channel, DrawnRecording, Version, drawn_recording
 from support import BPFREC, INFO, judge, judge_quietly, outcome
 
-WANTED = ("bin/bpfrec",)
+pytestmark = pytest.mark.wanted("bin/bpfrec")
 DRAWN = 12
 # What docs/user/using/read.md and docs/dev/DECISIONS/reading.md have as bounds.
 MOST_PLACES, MOST_SECONDS, MOST_BARS, MOST_GAPS, MOST_AHEAD = 1_000, 100_000, 450, 100, 10

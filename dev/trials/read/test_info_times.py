@@ -3,6 +3,7 @@
 import random
 from pathlib import Path
 
+import pytest
 from bpfrec_tools.cli.program import Audit
 from bpfrec_tools.info.contents import Recording
 from bpfrec_tools.info.facts_file import facts_beside
@@ -22,7 +23,7 @@ from reading import (
 )
 from support import INFO, judge, judge_quietly, outcome, present, run
 
-WANTED = ("bin/bpfrec",)
+pytestmark = pytest.mark.wanted("bin/bpfrec")
 
 
 def test_times_of_a_clock_that_ran_tai_are_utc(sample: Path) -> None:

@@ -13,7 +13,7 @@ from frames import FRAMES, body_of, end_packet, numbered, packet_of, program_pac
 from pcapng_blocks import COMMENT, SECTION, Block, blocks_in
 from support import EXPORT, FOLLOW, INFO, judge, outcome, run
 
-WANTED = ("bin/bpfrec", "tshark", "capinfos")
+pytestmark = pytest.mark.wanted("bin/bpfrec", "tshark", "capinfos")
 ORIGIN = [("1764590400.000000000", 0, None, "UTC")]
 SECOND = 10**7
 

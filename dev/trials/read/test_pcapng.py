@@ -9,6 +9,7 @@ import shutil
 import subprocess
 from pathlib import Path
 
+import pytest
 from captures import fields_of
 from expected_facts import BEFORE_1970, THREE_ORIGINS, facts_of_run
 from frames import FRAMES, body_of, end_packet, numbered, packet_of, program_packet, records, with_check_sequence
@@ -19,7 +20,7 @@ from rows import drawn_recording, flight_of
 from seen_frames import channels_of, feeds_of, judge_whole, made, seen_in
 from support import BPFREC, CAPTURE, EXPORT, judge, judge_quietly, outcome, pipe_at, run
 
-WANTED = ("bin/bpfrec", "bin/capture", "tshark", "capinfos", "tcpdump", "cc")
+pytestmark = pytest.mark.wanted("bin/bpfrec", "bin/capture", "tshark", "capinfos", "tcpdump", "cc")
 DRAWN = 10
 
 

@@ -11,7 +11,7 @@ from seen_frames import seen_in
 from several_recorders import facts_by, recording_at
 from support import EXPORT, INFO, judge, outcome, run
 
-WANTED = ("bin/bpfrec", "tshark", "capinfos")
+pytestmark = pytest.mark.wanted("bin/bpfrec", "tshark", "capinfos")
 # On a quiet machine that many channels take five seconds.
 CHANNELS, PATIENCE = 65_535, 40
 

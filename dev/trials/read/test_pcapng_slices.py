@@ -12,7 +12,7 @@ from reading import SEED
 from seen_frames import SECOND, Seen, feeds_of, judge_whole, made, seen_in
 from support import EXPORT, judge, judge_quietly, outcome, run
 
-WANTED = ("bin/bpfrec", "tshark", "capinfos")
+pytestmark = pytest.mark.wanted("bin/bpfrec", "tshark", "capinfos")
 SLICES = 12
 
 

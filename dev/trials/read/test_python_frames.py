@@ -23,7 +23,7 @@ from support import BPFREC, CHECK_SUMS, EXPORT, ROOT, judge, judge_quietly, outc
 from whole_file import Origin, Setup, whole_file
 from whole_file_parts import recorded
 
-WANTED = ("bin/bpfrec",)
+pytestmark = pytest.mark.wanted("bin/bpfrec")
 DRAWN = 8
 TICKS = 10_000_000
 

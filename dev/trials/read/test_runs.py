@@ -11,7 +11,7 @@ from expected_facts import facts_of_run
 from several_recorders import recording_at
 from support import CHECK, EXPORT, INFO, TOOLS, judge, judge_quietly, outcome, run
 
-WANTED = ("bin/bpfrec",)
+pytestmark = pytest.mark.wanted("bin/bpfrec")
 ORIGINS = [("1764590400.250000000", 0, None)]
 
 

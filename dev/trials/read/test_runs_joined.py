@@ -14,7 +14,7 @@ from support import BPFREC, judge, judge_quietly, outcome
 from whole_file import TIME
 from whole_file_trials import judge_made, seconds_of
 
-WANTED = ("bin/bpfrec",)
+pytestmark = pytest.mark.wanted("bin/bpfrec")
 SECOND, LAST_COUNTER = 10_000_000, 2**48 - 1
 LAST_VERSION, LAST_NUMBER = 2**32 - 1, 2**64 - 1
 SET_BY = (0, 0, 1, 49, 50, 100, 60_000_000, -60_000_000)

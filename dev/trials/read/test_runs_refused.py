@@ -11,7 +11,7 @@ from run_recordings import MOMENT, end, frames, one, program, run_at
 from support import judge
 from whole_file_trials import judge_joined, seconds_of
 
-WANTED = ("bin/bpfrec",)
+pytestmark = pytest.mark.wanted("bin/bpfrec")
 LAST_COUNTER, LAST_VERSION, LAST_NUMBER = 2**48 - 1, 2**32 - 1, 2**64 - 1
 OTHER = packet_of(7, b"1234", 0, 0x40, 0, True)
 # Recordings that the audit refuses, each with the number of the packet; of none it is the recording's end.

@@ -16,7 +16,7 @@ from support import BPFREC, judge, judge_quietly, outcome
 from whole_file_parts import recorded
 from whole_file_trials import chapter11, judge_joined, judge_made, judge_same, seconds_of, text_of, write_inputs
 
-WANTED = ("bin/bpfrec",)
+pytestmark = pytest.mark.wanted("bin/bpfrec")
 SECOND, MILLISECOND, LAST_COUNTER = 10_000_000, 10_000, 2**48 - 1
 # 2025-12-01 12:00:00, in nanoseconds since 1970, and by how many a clock is set.
 MOMENT = 1_764_590_400 * 10**9

@@ -15,7 +15,7 @@ from frames import body_of, end_packet, packet_of, program_packet, records
 from second_opinion import opinion_at
 from support import BPFREC, EXPORT, INFO, SALVAGE, judge, outcome, run, sums
 
-WANTED = ("bin/bpfrec",)
+pytestmark = pytest.mark.wanted("bin/bpfrec")
 PATIENCE = 240
 FRAMES, ANOTHER = 0x68, 0x09
 CHANNELS = [*range(1, 65_536, 950), 65_535]

@@ -10,7 +10,7 @@ import pytest
 from recorder import RECORDINGS, make_feed, write_settings
 from support import BPFREC, ROOT, judge, judge_quietly, present
 
-WANTED = ("bin/bpfrec",)
+pytestmark = pytest.mark.wanted("bin/bpfrec")
 DATA = ROOT / "crates/test_cases/data"
 WHOLE, CUT = RECORDINGS / "two_versions.ch11", RECORDINGS / "cut_to_210.ch11"
 OLDER = b"older and longer " * 1_000

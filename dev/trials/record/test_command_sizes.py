@@ -24,7 +24,7 @@ from support import (
     wait_for,
 )
 
-WANTED = ("bin/bpfrec",)
+pytestmark = pytest.mark.wanted("bin/bpfrec")
 # What docs/user/formats/ has as bounds.
 LISTING_BYTES, TEXT_BYTES, LINES_BYTES = MEBIBYTE, 64 * MEBIBYTE, 16 * MEBIBYTE
 # Between the powers of two that other trials have.

@@ -14,8 +14,7 @@ import pytest
 from recorder import MANY, extracted, make_feed, record, write_settings
 from support import BPFREC, judge, judge_quietly, outcome, present, run, sums, wait_for
 
-WANTED = ("bin/bpfrec",)
-pytestmark = pytest.mark.timed
+pytestmark = [pytest.mark.wanted("bin/bpfrec"), pytest.mark.timed]
 KILLS, PARTS = 100, 10
 CHANGES = 100
 

@@ -15,7 +15,7 @@ from frames import counted_feed
 from recorder import RECORD_LENGTH, RECORDINGS, begin, make_feed, record, write_settings
 from support import BPFREC, EXPORT, LIBRARY, SALVAGE, judge, judge_quietly, outcome, present, shared_library
 
-WANTED = ("bin/bpfrec", "cc")
+pytestmark = pytest.mark.wanted("bin/bpfrec", "cc")
 SAMPLE = RECORDINGS / "two_versions.ch11"
 FRAMES = 100
 # Those that lock OUT, and those that do not.

@@ -21,7 +21,7 @@ from full_size import (
 from recorder import begin
 from support import BPFREC, judge, judge_quietly, present, run
 
-WANTED = ("bin/bpfrec",)
+pytestmark = pytest.mark.wanted("bin/bpfrec")
 
 
 class Made(NamedTuple):

@@ -15,7 +15,7 @@ import pytest
 from frames import counted_feed
 from support import BPFREC, DROPS_ALL, KEEPS_ALL, judge, run
 
-WANTED = ("bin/bpfrec", "valgrind", "objdump")
+pytestmark = pytest.mark.wanted("bin/bpfrec", "valgrind", "objdump")
 SHORT, LONG = 2_000, 4_000
 # One to take the lock, one to let it go.
 A_FRAME = 2

@@ -9,8 +9,7 @@ from packets import packets_in
 from recorder import MANY, READING_MEMORY, make_feed, read_within, record, write_settings
 from support import BPFREC, judge, judge_quietly, outcome
 
-WANTED = ("bin/bpfrec", "time")
-pytestmark = pytest.mark.timed
+pytestmark = [pytest.mark.wanted("bin/bpfrec", "time"), pytest.mark.timed]
 # A header that claims a packet of four gigabytes.
 CLAIM = bytes.fromhex("25eb0100 fcffffff 00000000 08000001 00000000 000029ec")
 

@@ -12,8 +12,7 @@ import pytest
 from recorder import RECORDINGS, make_feed, record, write_settings
 from support import BPFREC, judge, outcome
 
-WANTED = ("bin/bpfrec", "cc")
-pytestmark = pytest.mark.timed
+pytestmark = [pytest.mark.wanted("bin/bpfrec", "cc"), pytest.mark.timed]
 FRAMES = 100
 
 # ---- full disks

@@ -23,8 +23,7 @@ from recorder import (
 )
 from support import BPFREC, ROOT, judge, judge_quietly, outcome, present, wait_for
 
-WANTED = ("bin/bpfrec",)
-pytestmark = pytest.mark.timed
+pytestmark = [pytest.mark.wanted("bin/bpfrec"), pytest.mark.timed]
 ANSWERS = 500
 IDLE_SECONDS = 5
 

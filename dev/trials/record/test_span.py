@@ -15,7 +15,7 @@ from packets import packets_in
 from recorder import record
 from support import BPFREC, SECONDS, judge, judge_quietly, outcome, pipe_at, run, wait_for
 
-WANTED = ("bin/bpfrec",)
+pytestmark = pytest.mark.wanted("bin/bpfrec")
 SPANS = [1, 2, 10, 1_000, 1_000_000, 1 << 47, (1 << 48) - 1]
 SEEDS, CHANGED_SEEDS = range(60), range(12)
 # Frames of 60 bytes, a span of 100: what docs/user/formats/recording.md has as the example.

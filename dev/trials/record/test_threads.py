@@ -11,8 +11,7 @@ from frames import counted_feed
 from recorder import begin, line_within_a_second, make_feed, write_settings
 from support import judge, present
 
-WANTED = ("bin/bpfrec",)
-pytestmark = pytest.mark.timed
+pytestmark = [pytest.mark.wanted("bin/bpfrec"), pytest.mark.timed]
 CHANNELS, MOST_OF_A_PROCESSOR = 16, 0.2
 # Pauses grow after a thousand of a millisecond each, which take longer where the machine is loaded.
 WINDOWS = 6

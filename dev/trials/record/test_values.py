@@ -12,7 +12,7 @@ from packets import packets_in
 from recorder import record, write_settings
 from support import BPFREC, KEEPS_ALL, judge, outcome, run
 
-WANTED = ("bin/bpfrec",)
+pytestmark = pytest.mark.wanted("bin/bpfrec")
 FRAME = bytes.fromhex("ffffffffffff020000000001080600010203")
 
 

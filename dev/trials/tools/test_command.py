@@ -12,7 +12,7 @@ from bpfrec_tools import VERSION, verbs
 from reading import SAMPLES
 from support import BPFREC, COMMAND, KEEPS_ALL, ROOT, judge, judge_quietly, outcome, run, wait_for
 
-WANTED = ("bin/bpfrec",)
+pytestmark = pytest.mark.wanted("bin/bpfrec")
 PROVED = [name for name, verb in verbs.VERBS.items() if verb.is_proved]
 TOOLS = list(verbs.TOOLS)
 

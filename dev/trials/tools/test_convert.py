@@ -13,7 +13,7 @@ from pcapng import SECOND, frames_in, with_wrong_sequences
 from sample_feeds import capture_of, sample_feed
 from support import CAPTURE, judge, outcome, present, run
 
-WANTED = ("bin/capture", "tcpdump", "tshark", "editcap")
+pytestmark = pytest.mark.wanted("bin/capture", "tcpdump", "tshark", "editcap")
 FRAMES = 2_000
 
 

@@ -28,7 +28,7 @@ from pcapng import (
 )
 from support import CAPTURE, judge, outcome
 
-WANTED = ("bin/capture",)
+pytestmark = pytest.mark.wanted("bin/capture")
 each_order = pytest.mark.parametrize("order", ["<", ">"], ids=["little", "big"])
 MOST_BLOCK, MOST_CAPTURED, SMALL_PIPE = 1 << 24, 262_144, 4_096
 

@@ -5,12 +5,13 @@ import gzip
 import struct
 from pathlib import Path
 
+import pytest
 from frames import counters
 from pcapng import MICROSECONDS, capture_head, captured
 from reading import SAMPLES
 from support import CAPTURE, judge, outcome, run
 
-WANTED = ("bin/capture",)
+pytestmark = pytest.mark.wanted("bin/capture")
 SECOND = 1_764_590_400
 # As of two interfaces, or of a clock that was set back.
 MOMENTS = (100_010, 100_005, 100_020)

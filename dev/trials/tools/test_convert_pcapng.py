@@ -10,7 +10,7 @@ from pcapng import BLOCKS_RECORDS, SECOND, all_blocks
 from sample_feeds import capture_of, sample_feed
 from support import CAPTURE, judge, outcome, run
 
-WANTED = ("bin/capture", "cc", "tshark", "editcap", "mergecap")
+pytestmark = pytest.mark.wanted("bin/capture", "cc", "tshark", "editcap", "mergecap")
 FRAMES = 2_000
 
 # ---- by hand

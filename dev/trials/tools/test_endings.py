@@ -28,7 +28,7 @@ from support import (
     wait_for,
 )
 
-WANTED = ("bin/bpfrec",)
+pytestmark = pytest.mark.wanted("bin/bpfrec")
 FULL, CLOSED = "No space left on device", "Bad file descriptor"
 # Those that print, and those that wait for a pipe; all end at a fault of a file with status 3.
 PRINTING = (

@@ -10,7 +10,7 @@ from recorder import make_feed
 from sample_feeds import capture_of
 from support import COMMAND, ROOT, TOOLS, judge, judge_quietly, outcome, run
 
-WANTED = ("bin/bpfrec", "bin/capture", "tcpdump", "editcap")
+pytestmark = pytest.mark.wanted("bin/bpfrec", "bin/capture", "tcpdump", "editcap")
 FILTER, LIVE = TOOLS / "filter", TOOLS / "live"
 FEED = ROOT / "examples/feeds/one.feed"
 EXPRESSION, ORIGIN = "udp port 50001", 1_764_590_400_250_000_000

@@ -10,7 +10,7 @@ import tomllib
 from sample_feeds import capture_of
 from support import BPFREC, LIVE, PREFLIGHT, ROOT, TOOLS, judge, judge_quietly, outcome, run
 
-WANTED = ("bin/bpfrec", "bin/capture", "tcpdump")
+pytestmark = pytest.mark.wanted("bin/bpfrec", "bin/capture", "tcpdump")
 FEED = ROOT / "examples/feeds/one.feed"
 CHANNELS = """
 [[channel]]

@@ -9,7 +9,7 @@ import pytest
 from reading import SAMPLES
 from support import BPFREC, ROOT, judge, run
 
-WANTED = ("bin/bpfrec",)
+pytestmark = pytest.mark.wanted("bin/bpfrec")
 
 
 @pytest.mark.parametrize("place", ["beside", "path"])

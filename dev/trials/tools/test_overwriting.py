@@ -11,7 +11,7 @@ from recorder import make_feed
 from sample_feeds import capture_of
 from support import CHECK, EXPORT, INFO, SALVAGE, TOOLS, judge, outcome, run
 
-WANTED = ("bin/bpfrec",)
+pytestmark = pytest.mark.wanted("bin/bpfrec")
 MAKING = ("salvage", "pcapng", "filter")
 
 

@@ -15,7 +15,7 @@ from disks import memory_disk
 from preflight_cases import ALL_CASES, FILES, FORBIDDEN_CASES, GOOD, HEAD, SECOND, Case
 from support import BPFREC, LIVE, MEBIBYTE, TOOLS, judge, outcome, present
 
-WANTED = ("bin/bpfrec",)
+pytestmark = pytest.mark.wanted("bin/bpfrec")
 PREFLIGHT = TOOLS / "preflight"
 # 64 channels of 4,099 buffers of 524,284 bytes.
 MOST_BUFFERS = 137_538_567_424

@@ -16,7 +16,7 @@ from bpfrec_tools.cli.quantities import duration_text, size_text
 from frames import FRAMES, body_of, end_packet, numbered, packet_of, program_packet, with_check_sequence
 from support import EXPORT, INFO, ROOT, SALVAGE, SECONDS, judge, outcome, pipe_at, present
 
-WANTED = ("bin/bpfrec",)
+pytestmark = pytest.mark.wanted("bin/bpfrec")
 # Runs a tool whose first line comes at once.
 AT_ONCE = """
 import sys

@@ -14,7 +14,7 @@ from reading import SAMPLES, SEED, recording_of_three
 from rows import PLUGIN, expected_rows, printed, rows_of, tshark
 from support import BPFREC, MEBIBYTE, judge, judge_quietly, outcome, run, sums
 
-WANTED = ("bin/bpfrec", "tshark", "time")
+pytestmark = pytest.mark.wanted("bin/bpfrec", "tshark", "time")
 # So many runs of tshark beside one another, and how many recordings are drawn.
 ABREAST, DRAWN = 2, 40
 HEADER_LEN = 24

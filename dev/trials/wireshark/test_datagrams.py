@@ -14,7 +14,7 @@ from rows import printed
 from support import judge
 from whole_file_parts import Part, parts_of
 
-WANTED = ("tshark",)
+pytestmark = pytest.mark.wanted("tshark")
 PORT = 50_000
 AT_PORT = ("-o", f"ch10udp.port:{PORT}")
 

@@ -7,6 +7,7 @@ import subprocess
 import zlib
 from pathlib import Path
 
+import pytest
 from frames import (
     COMPUTER,
     FRAMES,
@@ -36,7 +37,7 @@ from rows import (
 )
 from support import BPFREC, ROOT, judge, judge_quietly, outcome, run
 
-WANTED = ("bin/bpfrec", "tshark", "editcap")
+pytestmark = pytest.mark.wanted("bin/bpfrec", "tshark", "editcap")
 DRAWN = 8
 BOTH_MODES = ((), ("-2",))
 # Replaces what Wireshark gives to a reader of files, and reads the rows of RECORDING again in a drawn order.

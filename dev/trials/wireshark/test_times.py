@@ -28,7 +28,7 @@ from support import EXPORT, judge, judge_quietly, run
 from whole_file import Origin, whole_file
 from whole_file_parts import ORIGIN, SAMPLE_SETUP, parts_of, sample_recording
 
-WANTED = ("bin/bpfrec", "tshark")
+pytestmark = pytest.mark.wanted("bin/bpfrec", "tshark")
 DRAWN = 40
 
 
