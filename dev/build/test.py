@@ -74,7 +74,7 @@ def judged_beside(words: argparse.Namespace) -> trials.Counts:
     shutil.copy2(ROOT / PROGRAM, ROOT / "bin" / "bpfrec")
     calls = [["make", "-s", "capture"], [MEMORY, str(PROGRAM)]]
     statuses = [subprocess.run(it, cwd=ROOT).returncode for it in calls]
-    told = trials.Counts(0, 0) if words.no_trials else trials.run(["dev/trials"])
+    told = trials.Counts(0, 0) if words.no_trials else trials.run_trials(["dev/trials"])
     return trials.Counts(told.passed + statuses.count(0), told.failed + sum(map(bool, statuses)), told.skipped)
 
 

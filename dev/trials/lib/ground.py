@@ -187,13 +187,9 @@ def free_port() -> int:
 
 
 def is_taken(port: int) -> bool:
-    """Whether somebody listens at a port."""
-    with socket.socket(socket.AF_INET, socket.SOCK_DGRAM) as made:
-        try:
-            made.bind(("127.0.0.1", port))
-        except OSError:
-            return True
-    return False
+    """Whether somebody listens at a port; to bind it would take it from whoever is about to."""
+    rows = [line.split() for line in Path("/proc/net/udp").read_text().splitlines()[1:]]
+    return port in (int(row[1].rpartition(":")[2], 16) for row in rows)
 
 
 def write_facts(path: Path, setup: Setup, state: str = "ended", **more: Any) -> None:

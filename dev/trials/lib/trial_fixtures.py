@@ -41,8 +41,6 @@ def pytest_collection_modifyitems(items: list[pytest.Item]) -> None:
     for item in items:
         is_timed = item.get_closest_marker("timed") is not None
         item.add_marker(pytest.mark.xdist_group("timed" if is_timed else item.nodeid.partition("::")[0]))
-        if is_timed:
-            item.add_marker(pytest.mark.flaky(reruns=1))
     items.sort(key=lambda item: item.get_closest_marker("timed") is None and item.path.parent.name not in LONGEST)
 
 
