@@ -210,6 +210,58 @@ RECORDINGS: dict[str, Recording] = {
     "ends": Recording(end_packet(7, 2**32 - 1), [], [(7, 2**32 - 1, 2**32 - 1)]),
 }
 
+# ---- recordings with one full packet, by its frames: of channel 1, with a program before it and an end behind
+
+# The longest packet of frames, and its bytes around frames, but for a data checksum.
+MOST_PACKET, AROUND, FRAME_HEAD, LEAST_FRAME = 524_288, 24 + 4, 12, 18
+
+
+class Full(NamedTuple):
+    """A recording whose second packet is full: its bytes, and its frames."""
+
+    data: bytes
+    frames: list[tuple[int, int, bytes]]
+    is_summed: bool
+
+
+def filling(length_of: Callable[[int], int], room: int) -> list[tuple[int, int, bytes]]:
+    """Frames of these lengths, each a tick behind the one before, that take all of a room to its last byte."""
+    found: list[tuple[int, int, bytes]] = []
+    while room:
+        length = length_of(len(found))
+        if room - FRAME_HEAD - length - length % 2 < FRAME_HEAD + LEAST_FRAME:
+            length = room - FRAME_HEAD - length_of(0) % 2
+        found.append((1_000 + len(found), 0, frame_of(length, len(found)) if length >= LEAST_FRAME else b""))
+        room -= FRAME_HEAD + length + length % 2
+    return found
+
+
+def full(length_of: Callable[[int], int], is_summed: bool = True, length: int = MOST_PACKET) -> Full:
+    """A recording with a packet of this length, and one of a frame behind it."""
+    frames = filling(length_of, length - AROUND - 4 * is_summed)
+    later = (frames[-1][0] + 1, 0, frame_of(LEAST_FRAME, 7))
+    packets = [
+        program_packet(1, 0, is_summed=is_summed, counter=1_000),
+        packet_of(1, body_of(frames), 0, FRAMES, 1_000, is_summed),
+        packet_of(1, body_of([later]), 1, FRAMES, later[0], is_summed),
+        end_packet(1, len(frames) + 1, 1, is_summed, later[0]),
+    ]
+    return Full(b"".join(packets), [*frames, later], is_summed)
+
+
+# How each is made. Those of the first profile have no data checksum: with one, the packet of 524,284 bytes may be as long
+# as the others.
+FULL: dict[str, Callable[[], Full]] = {
+    "short": lambda: full(lambda _: 60),
+    "odd": lambda: full(lambda _: 61),
+    "least": lambda: full(lambda _: LEAST_FRAME),
+    "longest": lambda: full(lambda _: 16_383),
+    "all_lengths": lambda: full(lambda at: LEAST_FRAME + at),
+    "all_lengths_without_sums": lambda: full(lambda at: LEAST_FRAME + at, False, MOST_PACKET - 4),
+    "short_without_sums": lambda: full(lambda _: 60, False),
+    "empty": lambda: full(lambda _: 0),
+}
+
 # ---- origins of facts, with the counters of frames that have their times by them
 
 LAST_MOMENT = "253370764799.999999999"

@@ -143,11 +143,17 @@ def end_data(channel: int, offered: int, kept: int) -> bytes:
 
 
 def program_packet(
-    channel: int, version: int, insn: tuple = (6, 0, 0, 1), is_summed: bool = True, count: int = 1, sequence: int = 0
+    channel: int,
+    version: int,
+    insn: tuple = (6, 0, 0, 1),
+    is_summed: bool = True,
+    count: int = 1,
+    sequence: int = 0,
+    counter: int = 0,
 ) -> bytes:
     """The packet of a program of one instruction, as often as `count` says, from frame 0 on."""
     data = program_data(channel, version, insns_of(insn) * count)
-    return packet_of(0, data, sequence, COMPUTER, 0, is_summed)
+    return packet_of(0, data, sequence, COMPUTER, counter, is_summed)
 
 
 def end_packet(channel: int, count: int, sequence: int = 1, is_summed: bool = True, counter: int = 9) -> bytes:

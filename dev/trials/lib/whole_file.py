@@ -16,8 +16,8 @@ SETUP, TIME, INDEX = 0x01, 0x11, 0x03
 CHANNELS = 1 << 16
 PIECE_TICKS, MOST_DISORDER, MOST_GAP = 1_000_000, 10_000_000, 6_048_000_000_000
 MOST_PACKET_LENGTH, MOST_NAMED = 524_288, 16_384
-# A packet's header, the word of its body and its data checksum.
-AROUND_FRAMES = 24 + 4 + 4
+# A packet's header, the word of its body and its data checksum; and what stands before the bytes of a frame.
+AROUND_FRAMES, FRAME_HEAD = 24 + 4 + 4, 12
 
 
 class Refused(Exception):
@@ -80,18 +80,20 @@ def pieces_of(packet: Piece) -> Iterator[Piece]:
     if packet.record:
         yield packet
     piece: list[Frame] = []
+    length = 0
     for frame in packet.frames:
-        if piece and not goes_on(piece, frame):
+        size = FRAME_HEAD + len(frame.bytes) + len(frame.bytes) % 2
+        if piece and not goes_on(piece, length + size, frame):
             yield packet._replace(counter=piece[0].counter, frames=tuple(piece))
-            piece = []
+            piece, length = [], 0
         piece.append(frame)
+        length += size
     if piece:
         yield packet._replace(counter=piece[0].counter, frames=tuple(piece))
 
 
-def goes_on(piece: list[Frame], frame: Frame) -> bool:
-    """Whether a frame belongs to the piece of those before it."""
-    length = sum(12 + len(it.bytes) + len(it.bytes) % 2 for it in [*piece, frame])
+def goes_on(piece: list[Frame], length: int, frame: Frame) -> bool:
+    """Whether a frame belongs to the piece of those before it, which has this length with it."""
     return (
         piece[-1].counter <= frame.counter < piece[0].counter + PIECE_TICKS
         and AROUND_FRAMES + length + -length % 4 <= MOST_PACKET_LENGTH
