@@ -229,7 +229,7 @@ def filling(length_of: Callable[[int], int], room: int) -> list[tuple[int, int, 
     found: list[tuple[int, int, bytes]] = []
     while room:
         length = length_of(len(found))
-        if room - FRAME_HEAD - length - length % 2 < FRAME_HEAD + LEAST_FRAME:
+        if 0 != room - FRAME_HEAD - length - length % 2 < FRAME_HEAD + min(length, LEAST_FRAME):
             length = room - FRAME_HEAD - length_of(0) % 2
         found.append((1_000 + len(found), 0, frame_of(length, len(found)) if length >= LEAST_FRAME else b""))
         room -= FRAME_HEAD + length + length % 2
@@ -254,6 +254,7 @@ def full(length_of: Callable[[int], int], is_summed: bool = True, length: int = 
 FULL: dict[str, Callable[[], Full]] = {
     "short": lambda: full(lambda _: 60),
     "odd": lambda: full(lambda _: 61),
+    "equal": lambda: full(lambda _: 20),
     "least": lambda: full(lambda _: LEAST_FRAME),
     "longest": lambda: full(lambda _: 16_383),
     "all_lengths": lambda: full(lambda at: LEAST_FRAME + at),
