@@ -81,7 +81,8 @@ def test_all_that_are_given_are_taken_in_their_order(name: str, count: int) -> N
     repeats = option and action.nargs is None
     words = [word for it in given for word in (option, it)] if repeats else [*filter(None, [option]), *given]
     found = vars(parser_of(verb).parse_args([*AHEAD.get(name, []), *words]))[action.dest]
-    judge(f"{count} of {name}", found == [(action.type or str)(it) for it in given], found[:5])  # type: ignore[operator]
+    type_of = cast(Callable[[str], object], action.type or str)
+    judge(f"{count} of {name}", found == [type_of(it) for it in given], found[:5])
 
 
 # ---- what is done with them
@@ -145,18 +146,16 @@ def test_each_of_several_damaged_recordings_is_said(work: Path, pair: Pair) -> N
     both, damaged = pair
     for path in both:
         Path(f"{path}.json").unlink()
-    for command in ([EXPORT, *both, work / "o.pcapng"], [INFO, "--json", *both], [CHECK, "--no-audit", *both]):
-        done = outcome(*command)
-        judge(f"{command[0].name}: the status", done.returncode == bool(damaged), done)
-        said = done.stderr if command[0] == EXPORT else done.stdout
-        if command[0] == INFO:
-            found = [bool(it["damaged_count"]) for it in json.loads(said)["recordings"]]
-            judge("info has the damage of each", found == [it in damaged for it in both], found)
-        elif command[0] == CHECK:
-            wrong = [" wrong 0\n" not in it for it in said.split("recording ")[1:]]
-            judge("check has the sums of each", wrong == [it in damaged for it in both], said)
-        else:
-            judge("export names each", [it for it in both if f"{it}" in said] == damaged, said)
+    done = outcome(EXPORT, *both, work / "o.pcapng")
+    judge("export names each", [it for it in both if f"{it}" in done.stderr] == damaged, done)
+    told = outcome(INFO, "--json", *both)
+    found = [bool(it["damaged_count"]) for it in json.loads(told.stdout)["recordings"]]
+    judge("info has the damage of each", found == [it in damaged for it in both], found)
+    checked = outcome(CHECK, "--no-audit", *both)
+    wrong = [" wrong 0\n" not in it for it in checked.stdout.split("recording ")[1:]]
+    judge("check has the sums of each", wrong == [it in damaged for it in both], checked)
+    statuses = [it.returncode for it in (done, told, checked)]
+    judge("the status of each", statuses == [int(bool(damaged))] * 3, statuses)
 
 
 def followed(work: Path, damaged: tuple[int, ...], channels: int = 2) -> list[Path]:
@@ -254,7 +253,9 @@ def test_each_of_several_publishers_that_die_is_said_and_begun_again(
     seen: list[tuple[str, object]] = []
     guard = PlayedGuard()
     targets = [target_of(f"192.0.2.1:{5 + it}") for it in range(count)]
-    made = Publishers(targets, cast(Any, PlayedLoop()), cast(Any, guard), lines.append, lambda *it: seen.append(it))
+    made = Publishers(
+        targets, cast(Any, PlayedLoop()), cast(Any, guard), lines.append, lambda place, sent: seen.append((place, sent))
+    )
     made.begun(cast(Any, Begun(argparse.Namespace(out="x.ch11"))))
     places = [f"192.0.2.1:{5 + it}" for it in range(count)]
     judge("each is begun", [it[-1] for it in guard.asked] == places, guard.asked)

@@ -116,8 +116,12 @@ def audit_of(path: str, is_quiet: bool = True) -> Audit:
         return Audit(None, "not asked: bpfrec is missing")
     except OSError as error:
         return Audit(None, f"not asked: {error.strerror}")
-    lines = (done.stdout or done.stderr).strip().split("\n")
-    return Audit(lines[-1] or f"status {done.returncode}", None)
+    answer, told = (it.strip().split("\n")[-1] for it in (done.stdout, done.stderr))
+    if done.returncode != (0 if Verdict.of(answer).is_yes() else 1):
+        # One that fails behind its answer has given none.
+        answer = ""
+    ended = f"ended by signal {-done.returncode}" if done.returncode < 0 else f"status {done.returncode}"
+    return Audit(answer or told or ended, None)
 
 
 class Texts:
