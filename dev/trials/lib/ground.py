@@ -13,8 +13,11 @@ import threading
 from pathlib import Path
 from typing import Any, NamedTuple, Optional
 
+from frames import FRAMES
+from packets import frames_in
 from packets import packets_in as recorded_packets
 from recordings import extracted
+from rows import printed
 from streamed import Stream
 from support import BPFREC, PUBLISH, RECEIVE, SECONDS, judge_quietly, nanoseconds, outcome, present, wait_for
 from whole_file import Origin, Setup
@@ -224,6 +227,23 @@ def stream_of(path: Path) -> Stream:
     for packet in recorded_packets(data):
         stream.put(*packet)
     return stream
+
+
+def rows_of(stream: Stream) -> list[str]:
+    """What tshark should print of the frames of a stream. Their times are those of its time packets, to the tick."""
+    found = []
+    for part in parts_of(bytes(stream.file.data)):
+        for frame in frames_in(part.data) if part.kind == FRAMES else []:
+            seconds, rest = divmod(stream.setup.origins[0].nanoseconds // 100 * 100 + frame.counter * 100, 10**9)
+            name, _ = stream.setup.channels[part.channel]
+            found.append(f"{name}\t{seconds}.{rest:09}\t{len(frame.bytes)}")
+    return found
+
+
+def rows_in(work: Path, capture: Path) -> list[str]:
+    """What tshark prints of the frames of a capture."""
+    fields = [word for it in ("interface_name", "time_epoch", "len") for word in ("-e", f"frame.{it}")]
+    return printed(work, "-r", capture, "-T", "fields", *fields)
 
 
 def send(path: Path, address: str, *options: object) -> Published:

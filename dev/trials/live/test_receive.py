@@ -1,5 +1,6 @@
 """Tries bpfrec receive on what a network does to datagrams, and what it refuses."""
 
+import fcntl
 import random
 import shutil
 import signal
@@ -11,7 +12,7 @@ from pathlib import Path
 
 import pytest
 from bpfrec.formats.transfer import whole_head
-from bpfrec_tools.receive.source import SILENCE
+from bpfrec_tools.receive.source import DEAD, SILENCE
 from frames import packet_of
 from ground import Receiver, Relay, Station, drawn_flight, free_port, is_taken, send, stream_of
 from support import BPFREC, RECEIVE, judge, judge_quietly, outcome, wait_for
@@ -190,3 +191,66 @@ def test_setup_records_without_end_make_few_files(work: Path) -> None:
     took = time.monotonic() - begun
     count = len(list(work.glob("ground*.ch10")))
     judge("ten a second", 1 < count <= 10 * (took + 1) + 1, (count, took))
+
+
+# ---- silences, and an OUT that is written
+
+
+def test_a_dead_recorder_is_told_from_a_quiet_one(work: Path) -> None:
+    """Which sends a datagram without a packet each second."""
+    path, port = drawn_flight(work, 4), free_port()
+    datagrams = datagrams_of(path)
+    receiver = Receiver(work, "ground.ch10", f"127.0.0.1:{port}")
+    sender, came = Sender(port), len(datagrams) - 2
+    whose = f"127.0.0.1 port {sender.socket.getsockname()[1]}"
+    sender.send(datagrams[:came])
+    for beat in range(5):
+        time.sleep(0.9)
+        sender.send([whole_head(came + beat)])
+    judge("a quiet one", not receiver.errors.read_text(), receiver.errors.read_text())
+    last = time.time()
+    time.sleep(DEAD + 1.5)
+    sender.send([whole_head(came + 5)])
+    wait_for("datagrams come again", lambda: receiver.errors.read_text().count("\n") == 2)
+    dead, again = receiver.errors.read_text().splitlines()
+    begin, since = dead[: -len("2026-12-01T10:00:00Z")], dead.split()[-1]
+    line = f"bpfrec receive: nothing has come to 127.0.0.1:{port} from {whose} since "
+    judge("whose silence it is", begin == line, dead)
+    times = [time.strftime("%Y-%m-%dT%H:%M:%SZ", time.gmtime(last + it)) for it in (-1, 0)]
+    judge("since when", since in times, (since, times))
+    begin = f"bpfrec receive: datagrams come again, of {whose}, after "
+    judge("and its end", again.startswith(begin) and 4 <= float(again.split()[-2]) <= 10, again)
+    status, received = receiver.ended()
+    judge("nothing is lost by it", (status, received.lost, received.datagrams) == (0, 0, came + 6), received)
+
+
+def test_where_nothing_comes_at_all_a_line_says_so(work: Path) -> None:
+    for words, whose in (((), ""), (("--from", "192.0.2.7"), " from 192.0.2.7")):
+        address = f"127.0.0.1:{free_port()}"
+        done = outcome(RECEIVE, "--force", "--for", DEAD + 2, *words, address, work / "a.ch10")
+        line = f"bpfrec receive: nothing has come to {address}{whose} since "
+        judge("one line", [it.startswith(line) for it in done.stderr.splitlines()][:-1] == [True], done.stderr)
+
+
+def test_an_out_that_another_program_writes_is_refused(work: Path) -> None:
+    """By receive, of receive and of a recorder, and by a recorder; what is written stays."""
+    address, out, line = f"127.0.0.1:{free_port()}", work / "out.ch10", "another program writes it"
+    receiver = Receiver(work, "out.ch10", address)
+    (work / "a.feed").touch()
+    (work / "all").write_text("1,6 0 0 1,")
+    (work / "s.toml").write_text(f'[[channel]]\nid = 1\nfeed = "{work}/a.feed"\nfilter = "{work}/all"\n')
+    done = outcome(RECEIVE, "--force", f"127.0.0.1:{free_port()}", out)
+    judge("a receiver's", (done.returncode, done.stderr) == (3, f"bpfrec receive: {out}: {line}\n"), done)
+    done = outcome(BPFREC, "record", work / "s.toml", out, input="")
+    judge("by a recorder", (done.returncode, done.stderr) == (3, f"file {out}\n"), done)
+    send(drawn_flight(work, 4), address)
+    wanted = bytes(stream_of(work / "flight.ch11").file.data)
+    wait_for("what is received is there", lambda: out.read_bytes() == wanted)
+    receiver.ended()
+    with open(out, "rb") as written:
+        # As a recorder has it.
+        fcntl.flock(written, fcntl.LOCK_EX)
+        done = outcome(RECEIVE, "--force", address, out)
+        judge("a recorder's", (done.returncode, done.stderr) == (3, f"bpfrec receive: {out}: {line}\n"), done)
+    judge("its bytes stay", out.read_bytes() == wanted)
+    judge("and it may be written again", outcome(RECEIVE, "--force", "--for", 0.1, address, out).returncode == 1)

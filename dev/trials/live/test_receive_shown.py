@@ -6,26 +6,10 @@ import subprocess
 from pathlib import Path
 
 import pytest
-from frames import FRAMES
-from ground import drawn_flight, free_port, is_taken, send, stream_of
-from packets import frames_in
-from rows import printed
+from ground import drawn_flight, free_port, is_taken, rows_in, rows_of, send, stream_of
 from support import RECEIVE, judge, judge_quietly, outcome, wait_for
-from whole_file_parts import ORIGIN, parts_of
 
 pytestmark = [pytest.mark.wanted("bin/bpfrec", "ip", "tshark"), pytest.mark.usefixtures("namespace")]
-FIELDS = [word for it in ("interface_name", "time_epoch", "len") for word in ("-e", f"frame.{it}")]
-
-
-def rows_of(path: Path) -> list[str]:
-    """What tshark should print of a recording that is published. Its times are those of the time packets, to the tick."""
-    stream, found = stream_of(path), []
-    for part in parts_of(bytes(stream.file.data)):
-        for frame in frames_in(part.data) if part.kind == FRAMES else []:
-            seconds, rest = divmod(ORIGIN // 100 * 100 + frame.counter * 100, 10**9)
-            name, _ = stream.setup.channels[part.channel]
-            found.append(f"{name}\t{seconds}.{rest:09}\t{len(frame.bytes)}")
-    return found
 
 
 def receiving(port: int, shown: Path, *words: object) -> subprocess.Popen[str]:
@@ -42,12 +26,12 @@ def test_what_comes_is_a_capture(work: Path, has_out: bool) -> None:
     path, port, shown = drawn_flight(work, 3), free_port(), work / "shown.pcapng"
     receiver = receiving(port, shown, *([work / "ground.ch10"] if has_out else []))
     send(path, f"127.0.0.1:{port}")
-    rows = rows_of(path)
+    rows = rows_of(stream_of(path))
     wait_for("it is shown as it comes", lambda: shown.stat().st_size > 1_000)
     receiver.terminate()
     _, told = receiver.communicate(timeout=30)
     judge("it ends well", receiver.returncode == 0 and told.startswith("received packets "), told)
-    found = printed(work, "-r", shown, "-T", "fields", *FIELDS)
+    found = rows_in(work, shown)
     judge("each frame", found == rows, (len(found), len(rows)))
     if has_out:
         judge("and the file", (work / "ground.ch10").read_bytes() == bytes(stream_of(path).file.data))

@@ -7,10 +7,10 @@ from typing import Callable, Iterator, NamedTuple, Optional
 from bpfrec.formats.body import BadBody, Frames
 from bpfrec.formats.follow import Follower, Front
 from bpfrec.formats.held import File
-from bpfrec.formats.limits import ETHERNET_DATA, HEADER_LEN, MAX_ETHERNET_PACKET_LEN
+from bpfrec.formats.limits import ETHERNET_DATA, HEADER_LEN
 from bpfrec.formats.packet import Fault, Header, body_of, data_of, header_of
 from bpfrec.formats.records import End, Program
-from bpfrec.formats.whole_file import MOST_SETUP_LENGTH, SETUP, WholeFile, begins_whole_file, is_own
+from bpfrec.formats.whole_file import SETUP, WholeFile, begins_whole_file, is_own
 
 # A record of a program is far shorter; a longer packet is another recorder's.
 MOST_RECORD_LEN = 1 << 20
@@ -108,7 +108,7 @@ class Index:
     def take_own(self, whole: WholeFile, front: Front) -> None:
         """Takes a setup record or a time packet."""
         at, header = front.at, front.header
-        if header.packet_len > (MAX_ETHERNET_PACKET_LEN if header.channel else MOST_SETUP_LENGTH):
+        if header.packet_len > header.most_len():
             self.note(Fault(0, "Length", at), header.packet_len)
         elif not whole.take(header, self.file.read_at(at, header.packet_len)):
             self.note(Fault(0, "Setup" if header.kind == SETUP else "Time", at), header.packet_len)

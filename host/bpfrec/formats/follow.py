@@ -22,7 +22,7 @@ from bpfrec.formats.limits import (
     MAX_INSNS,
     PROGRAM_HEAD_LEN,
 )
-from bpfrec.formats.packet import SYNC, Fault, Header, header_or_fault
+from bpfrec.formats.packet import SYNC, Fault, Header, header_of, header_or_fault
 from bpfrec.formats.reader import Reader
 from bpfrec.formats.records import End, Program, record_in
 
@@ -63,6 +63,8 @@ class Follower:
         self.read_at, self.take = read_at, take
         self.at = self.size = 0
         self.is_searching = False
+        # Whether the file begins as a whole one, in which setup records may be long.
+        self.is_whole = False
         # Goes on behind damaged places of a recording that has ended; there is none while it grows.
         self.reader: Optional[Reader] = None
 
@@ -105,6 +107,7 @@ class Follower:
         rest = self.size - self.at
         held = self.read_at(self.at, FRONT_LEN) if rest >= HEADER_LEN else b""
         if len(held) >= HEADER_LEN:
+            self.is_whole = self.is_whole or not self.at and header_of(held[:HEADER_LEN]).is_setup()
             found = self.header_of(held)
             if not isinstance(found, Header):
                 return Fault(*found, self.at)
@@ -114,10 +117,14 @@ class Follower:
 
     def header_of(self, held: bytes) -> Union[Header, tuple[int, str]]:
         """The header that these bytes begin with, or their fault. While the file grows, a packet that is longer than any
-        that the recorder writes has one too, since it would be waited for."""
+        that is written into it has one too, since it would be waited for."""
         found = header_or_fault(held)
-        is_long = isinstance(found, Header) and found.packet_len > MAX_ETHERNET_PACKET_LEN
+        is_long = isinstance(found, Header) and found.packet_len > self.most_len(found)
         return (4, "Length") if is_long and not self.reader else found
+
+    def most_len(self, header: Header) -> int:
+        """How long a packet of this header is at most."""
+        return header.most_len() if self.is_whole else MAX_ETHERNET_PACKET_LEN
 
     def record(self, front: Front) -> Union[Program, End, None]:
         """The record that a packet is, which is read whole; None where it is none."""

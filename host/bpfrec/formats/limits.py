@@ -91,6 +91,8 @@ BUFFERS_BESIDE_RING = SPARE_BUFFERS + 1
 # ---- of the document alone
 
 RECORD_TAG = b"CBPR"
+# The type of setup records of whole files, whose packets may be the longest.
+SETUP, MAX_SETUP_PACKET_LEN = 0x01, 134_217_728
 NANOSECONDS_A_SECOND = 1_000_000_000
 NANOSECONDS_A_TICK = 100
 TICKS_A_SECOND = NANOSECONDS_A_SECOND // NANOSECONDS_A_TICK

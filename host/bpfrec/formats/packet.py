@@ -12,7 +12,9 @@ from bpfrec.formats.limits import (
     ETHERNET_DATA,
     HEADER_LEN,
     MAX_ETHERNET_PACKET_LEN,
+    MAX_SETUP_PACKET_LEN,
     RECORD_CHANNEL,
+    SETUP,
     SYNC_PATTERN,
 )
 from bpfrec.formats.records import End, Program, record_in
@@ -63,6 +65,14 @@ class Header(NamedTuple):
     def may_be_record(self) -> bool:
         """Whether it has the kind and the channel of records."""
         return self.kind == COMPUTER_GENERATED_DATA and self.channel == RECORD_CHANNEL
+
+    def is_setup(self) -> bool:
+        """Whether it is that of a setup record, as whole files have it."""
+        return self.kind == SETUP and self.channel == RECORD_CHANNEL
+
+    def most_len(self) -> int:
+        """How long a packet of its type is at most."""
+        return MAX_SETUP_PACKET_LEN if self.is_setup() else MAX_ETHERNET_PACKET_LEN
 
     def has_judged_data(self) -> bool:
         """Whether its data may be frames or a record."""

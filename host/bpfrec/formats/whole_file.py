@@ -8,11 +8,11 @@ from datetime import datetime, timedelta
 from typing import Any, NamedTuple, Optional
 
 from bpfrec.formats.facts import EPOCH, Facts, seconds_of, tick_of
-from bpfrec.formats.limits import HEADER_LEN, MAX_HOST_LEN, NANOSECONDS_A_TICK, RECORD_CHANNEL, SYNC_PATTERN
-from bpfrec.formats.packet import Header, data_of, has_right_sum, header_of
+from bpfrec.formats.limits import HEADER_LEN, MAX_HOST_LEN, NANOSECONDS_A_TICK
+from bpfrec.formats.limits import SETUP as SETUP
+from bpfrec.formats.packet import SYNC, Header, data_of, has_right_sum, header_of
 
-SETUP, INDEX, TIME = 0x01, 0x03, 0x11
-MOST_SETUP_LENGTH = 134_217_728
+INDEX, TIME = 0x03, 0x11
 # The word of a setup record: RCC 106-17, in ASCII. Its lines, whose names end at their first colon.
 WORD, WORD_LEN = bytes((0x0C, 0, 0, 0)), 4
 LINE_END, LINES = ";\r\n", re.compile(r"(?:[ -9<-~]+:[ -:<-~]*;\r\n)*")
@@ -21,6 +21,7 @@ CHANNEL_LINE, OF_FRAMES = re.compile(r"R-1\\TK1-([0-9]{1,5})"), "ETHIN"
 NAMED = re.compile(r"(.+) \((.+)\)")
 # Of the word of a time packet: a real-time clock, with day, month and year.
 CLOCK_BITS, CLOCK = 0x2F0, 0x230
+WHOLE_SECONDS = len("2025-12-01T12:00:00")
 TIME_LEN, HUNDREDTH, TICKS_A_HUNDREDTH = 12, timedelta(milliseconds=10), 100_000
 
 
@@ -130,6 +131,7 @@ class WholeFile:
             {"channel": number, **called(name)} for number, name in self.names().items()
         ]
         said: dict[str, Any] = {"facts": 1, "origins": origins, "losses": [], "interfaces": interfaces}
+        said["begun"] = f"{time_text(self.clocks[0].moment)[:WHOLE_SECONDS]}Z"
         host, program = (self.setup.host, self.setup.program) if self.setup else (None, None)
         return Facts({**said, "host": (host or "")[:MAX_HOST_LEN], "program": program or ""})
 
@@ -147,13 +149,7 @@ def is_own(kind: int) -> bool:
 
 def begins_whole_file(head: bytes) -> bool:
     """Whether these first bytes of a file are the header of a setup record, as no recording has it."""
-    if len(head) < HEADER_LEN:
-        return False
-    header = header_of(head[:HEADER_LEN])
-    return int.from_bytes(head[:2], "little") == SYNC_PATTERN and (header.channel, header.kind) == (
-        RECORD_CHANNEL,
-        SETUP,
-    )
+    return len(head) >= HEADER_LEN and head[:2] == SYNC and header_of(head[:HEADER_LEN]).is_setup()
 
 
 def time_text(ticks: Optional[int]) -> str:

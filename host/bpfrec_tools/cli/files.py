@@ -2,6 +2,7 @@
 
 from __future__ import annotations
 
+import fcntl
 import os
 import stat
 from functools import cache
@@ -64,6 +65,17 @@ def read_text(path: str) -> str:
     except UnicodeDecodeError as fault:
         line = data.count(b"\n", 0, fault.start) + 1
         raise Unread(f"no UTF-8 in line {line}") from None
+
+
+def lock(descriptor: int) -> bool:
+    """Locks a file as long as it is open, as a recorder does while it writes: whether no other program had."""
+    try:
+        fcntl.flock(descriptor, fcntl.LOCK_EX | fcntl.LOCK_NB)
+    except BlockingIOError:
+        return False
+    except OSError:
+        pass  # a file system without locks
+    return True
 
 
 def file_id(path: str) -> Optional[tuple[int, int]]:

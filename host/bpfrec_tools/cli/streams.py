@@ -17,6 +17,7 @@ from bpfrec.formats.names import facts_path
 from bpfrec_tools.cli import printing
 from bpfrec_tools.cli.ending import Refused as Refused
 from bpfrec_tools.cli.files import STREAM as STREAM
+from bpfrec_tools.cli.files import lock
 
 # So many parts at most wait for a write.
 PARTS_A_WRITE = 256
@@ -171,9 +172,14 @@ class Output:
             raise Refused(f"{path}: {fault.strerror}") from None
 
     def create(self) -> int:
-        """The descriptor of the file, which is emptied."""
+        """The descriptor of the file; a regular one is locked, so that one program at a time writes it, and emptied."""
         is_new = not os.path.exists(self.name)
-        descriptor = os.open(self.name, os.O_WRONLY | os.O_CREAT | os.O_TRUNC, 0o666)
+        descriptor = os.open(self.name, os.O_WRONLY | os.O_CREAT, 0o666)
+        if stat.S_ISREG(os.fstat(descriptor).st_mode):
+            if not lock(descriptor):
+                os.close(descriptor)
+                raise Taken(f"{self.name}: another program writes it")
+            os.ftruncate(descriptor, 0)
         if is_new:
             force_folder_of(self.name)
         return descriptor

@@ -22,6 +22,8 @@ the recordings of a run that follow one another, until the run ends:
 
 RECORDING is a recording, or the name of a run whose recordings are numbered; then it begins with the newest. Each
 channel is an interface with the name that the facts beside the recording have for it, and times are those of the facts.
+It may be a whole Chapter 11 file too, as bpfrec receive writes it: names are those of its setup record, and times those
+of its time packets. Then it goes on as long as that is written, and over the files that follow.
 Comments have the filter of each channel, and at the first frame after a change the new one. A mark is a comment of the
 next frame that is shown; one that no frame follows is a comment of a section at the end, and a line on standard error.
 Frames of a channel stand in their order; those of channels stand as the packets were written.
@@ -29,7 +31,8 @@ Frames of a channel stand in their order; those of channels stand as the packets
 MORE = """\
 At the end it prints `frames <n> skipped <m>` on standard error: m frames have another content, or fewer than 18 bytes,
 and no capture can have them.
-The facts of a recording that has just begun are waited for, up to 10 s.
+The facts of a recording that has just begun are waited for, up to 10 s. Of a whole file's frames ahead of its first time
+packet that can be read a line says that their times are since counter 0; it has no marks.
 A packet is written when it is full or as old as the --span of live, so frames come that late. The recording is only
 read: a reader that is slow or leaves changes nothing of it.
 
@@ -64,7 +67,8 @@ def follow(path: str, begins_now: bool, view: View) -> bool:
             if begins_now:
                 recording.hide()
             recording.wait_for_facts()
-            recording.judge_asked()
+            if recording.known:
+                recording.judge_asked()
             next_path, begins_now = follow_one(recording), False
         finally:
             recording.close()

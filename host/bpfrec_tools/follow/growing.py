@@ -9,8 +9,11 @@ from typing import Callable, Optional
 from bpfrec.formats.facts import Facts, NoFacts, read
 from bpfrec.formats.follow import Follower, Front
 from bpfrec.formats.held import File
+from bpfrec.formats.limits import HEADER_LEN
 from bpfrec.formats.names import ENDING, Names, facts_path, names_of
+from bpfrec.formats.whole_file import begins_whole_file
 from bpfrec_tools.cli.streams import Refused
+from bpfrec_tools.follow.within import beginning_of
 
 
 def facts_of(path: str) -> Optional[Facts]:
@@ -33,13 +36,14 @@ def first_of(path: str) -> str:
     return max((os.stat(found).st_mtime_ns, number, found) for number, found in there)[2]
 
 
-def following(path: str, begun: int) -> Optional[str]:
-    """The recording that follows one of its run; None where there is none yet. One of an earlier run is skipped."""
+def following(path: str, begun: int, first: Optional[int] = None) -> Optional[str]:
+    """The recording that follows one of its run; None where there is none yet. One of an earlier run is skipped. `first`
+    is the number of a path that has none."""
     names = names_of(path)
-    own = names.number_of(path)
+    own = first if names.number_of(path) is None else names.number_of(path)
     for number, found in names.there() if own is not None else []:
         if own is not None and number > own:
-            known = facts_of(found)
+            known = facts_of(found) or beginning_of(found)
             if known and (known.begun or 0) >= begun:
                 return found
     return None
@@ -115,12 +119,24 @@ class Growing:
         """Waits until facts say when it was recorded and what its channels are, while somebody writes it."""
         ends = time.monotonic() + FACTS_PATIENCE
         self.look_at_facts()
-        while not self.known and not self.has_ended() and time.monotonic() < ends:
+        while not self.known and not self.has_ended() and not self.begins_whole() and time.monotonic() < ends:
             is_last = is_given_up()
             time.sleep(PAUSE)
             self.look_at_facts()
             if is_last:
                 break
+
+    def begins_whole(self) -> bool:
+        """Whether it begins as a whole file, which needs no facts beside it."""
+        return begins_whole_file(self.file.read_at(0, HEADER_LEN))
+
+    def waits_for_next(self) -> bool:
+        """Whether another one may follow it a little later: it is numbered."""
+        return self.number() is not None
+
+    def number(self) -> Optional[int]:
+        """Its number in its run; None of one alone."""
+        return names_of(self.path).number_of(self.path)
 
     def name(self, channel: int) -> str:
         """The name of a channel's interface."""
@@ -132,23 +148,23 @@ class Growing:
         return bool(wanted) and (wanted | self.named) <= self.ended
 
     def has_ended(self) -> bool:
-        """Whether its facts say that it has ended; without facts, whether nobody writes it."""
-        return bool(self.known.has_ended) if self.known else not is_written(self.path)
+        """Whether its facts say that it has ended; where none say it, whether nobody writes it."""
+        said = self.known.has_ended if self.known else None
+        return not is_written(self.path) if said is None else said
 
 
 def next_of(
     recording: Growing, patience: float = PATIENCE, is_given_up: Callable[[], bool] = lambda: False
 ) -> Optional[str]:
-    """The recording that follows one, which is waited for until that has ended by its facts, and a little longer where it
-    is numbered."""
-    is_numbered = names_of(recording.path).number_of(recording.path) is not None
-    ends = None
+    """The recording that follows one, which is waited for until that has ended, and a little longer where another one
+    may follow."""
+    may_follow, ends = recording.waits_for_next(), None
     while recording.known:
-        next_path = following(recording.path, recording.known.begun or 0)
+        next_path = following(recording.path, recording.known.begun or 0, recording.number())
         if next_path or is_given_up() or ends is not None and time.monotonic() > ends:
             return next_path
         if recording.has_ended() and ends is None:
-            ends = time.monotonic() + (patience if is_numbered or patience > PATIENCE else 0)
+            ends = time.monotonic() + (patience if may_follow or patience > PATIENCE else 0)
         time.sleep(PAUSE)
         recording.look_at_facts()
     return None

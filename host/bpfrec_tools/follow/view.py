@@ -13,12 +13,19 @@ from bpfrec.formats.marks import Mark
 from bpfrec.formats.names import facts_path
 from bpfrec.formats.packet import body_of, data_of
 from bpfrec.formats.records import End, Program
+from bpfrec.formats.whole_file import SETUP, TIME, is_own
 from bpfrec_tools.cli.arguments import no_channel
 from bpfrec_tools.cli.program import Texts
 from bpfrec_tools.cli.streams import Refused
 from bpfrec_tools.export.captures import NO_NAMES
 from bpfrec_tools.export.merging import program_text
-from bpfrec_tools.follow.growing import Growing, Report
+from bpfrec_tools.follow.growing import Growing, Report, is_written
+from bpfrec_tools.follow.within import Within
+
+# What is said of a whole file that lacks names or times.
+KINDS = {SETUP: "setup record", TIME: "time packet"}
+UNNAMED = "no setup record or no time packet of it can be read, so --channel takes numbers, as 1"
+UNTIMED = "no time packet ahead of its first frames can be read, so times are those since counter 0"
 
 
 class Interface:
@@ -105,6 +112,12 @@ class Recording(Growing):
     def __init__(self, path: str, view: View, report: Report) -> None:
         super().__init__(path, report)
         self.view = view
+        # What a whole file says of itself, and whether somebody wrote it when it was opened.
+        self.within = Within() if self.begins_whole() else None
+        # Of which of its own types a packet couldn't be read.
+        self.unread: set[int] = set()
+        self.was_written = is_written(path)
+        self.is_judged = False
         # Up to this place frames are not shown.
         self.hidden_to = 0
         self.has_shown_frames = False
@@ -114,8 +127,26 @@ class Recording(Growing):
     def end(self) -> None:
         """Shows what is left of a recording that has ended."""
         self.read_rest()
-        self.view.ending.append(self)
+        if not self.within:
+            self.view.ending.append(self)
         self.view.look_back()
+
+    def number(self) -> Optional[int]:
+        """The first of whole files that follow one another has no number, and the next one has 2."""
+        return super().number() or (1 if self.within else None)
+
+    def waits_for_next(self) -> bool:
+        """Whole files follow one another while somebody writes them."""
+        return self.was_written if self.within else super().waits_for_next()
+
+    def look_at_facts(self) -> None:
+        """Reads the facts where they are new; a whole file has its own."""
+        if not self.within:
+            super().look_at_facts()
+
+    def name(self, channel: int) -> str:
+        """What a channel is called."""
+        return self.within.name(channel) if self.within else super().name(channel)
 
     def shows(self, channel: int) -> bool:
         """Whether a channel was asked for."""
@@ -127,7 +158,13 @@ class Recording(Growing):
         names = self.known.shown_names() if self.known else {}
         for asked in (it for it in self.view.asked if isinstance(it, str)):
             if not self.known or not any(self.known.is_called(it, asked) for it in names):
-                raise Refused(f"{self.path}: {no_channel(asked, names.items()) if self.known else NO_NAMES}")
+                raise Refused(f"{self.path}: {self.lack(asked, names)}")
+
+    def lack(self, asked: str, names: dict[int, str]) -> str:
+        """Why there is no channel of this name."""
+        if self.within and not names:
+            return UNNAMED
+        return no_channel(asked, names.items()) if self.known else NO_NAMES
 
     def hide(self) -> None:
         """Leaves out the frames and marks that are there already."""
@@ -147,12 +184,33 @@ class Recording(Growing):
             self.marks_shown += 1
 
     def take(self, front: Front) -> None:
-        """Shows a packet."""
-        if not front.header.is_plain():
+        """Shows a packet. Of a whole file the first ones say what its channels are called."""
+        if self.follower.is_whole and not self.within:
+            self.within, self.known = Within(), None
+        if self.within and is_own(front.header.kind):
+            self.take_own(self.within, front)
             return
-        if front.header.kind == ETHERNET_DATA:
+        if not self.is_judged:
+            self.is_judged = True
+            self.judge_asked()
+        if front.header.kind == ETHERNET_DATA and front.header.is_plain():
             self.take_frames(front)
-            return
+        else:
+            self.take_record(front)
+
+    def take_own(self, within: Within, front: Front) -> None:
+        """Takes what a whole file says of itself."""
+        header = front.header
+        is_long = header.packet_len > header.most_len()
+        if not is_long and within.take(header, self.file.read_at(front.at, header.packet_len)):
+            self.known = within.known
+        elif header.kind not in self.unread:
+            self.unread.add(header.kind)
+            self.is_damaged = True
+            self.report(f"{self.path}: the {KINDS[header.kind]} at byte {front.at} can't be read")
+
+    def take_record(self, front: Front) -> None:
+        """Takes a filter's program or the end of a channel, where a packet is one."""
         record = self.follower.record(front)
         if isinstance(record, Program):
             self.named.add(record.channel)
@@ -180,7 +238,9 @@ class Recording(Growing):
                 self.view.frame(interface, self.moment_of(counter), marks, frame)
 
     def report_scale(self) -> None:
-        """Says ahead of the first frames where nobody knows in which scale their times are."""
+        """Says ahead of the first frames where nobody knows their times or their scale."""
+        if not self.has_shown_frames and self.within and not self.known:
+            self.report(f"{self.path}: {UNTIMED}")
         if not self.has_shown_frames and self.known and not self.known.are_all_utc():
             self.report(f"{facts_path(self.path)}: {SCALE_UNKNOWN}")
         self.has_shown_frames = True

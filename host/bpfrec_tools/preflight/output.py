@@ -2,7 +2,6 @@
 
 from __future__ import annotations
 
-import fcntl
 import os
 import re
 import stat
@@ -11,7 +10,7 @@ from typing import Optional
 
 from bpfrec.formats.limits import BUFFERS_BESIDE_RING, TOP_KEYS
 from bpfrec.formats.settings import Channel, Settings, number_fault
-from bpfrec_tools.cli.files import file_id
+from bpfrec_tools.cli.files import file_id, lock
 from bpfrec_tools.cli.quantities import size_text
 from bpfrec_tools.preflight.report import Report, place
 
@@ -106,10 +105,4 @@ def is_input_beside(out: str, settings_file: str, channels: list[Channel], repor
 def is_locked(file: str) -> bool:
     """Whether another program has locked a file, as a recorder does while it writes."""
     with open(file, "rb+") as opened:
-        try:
-            fcntl.flock(opened, fcntl.LOCK_EX | fcntl.LOCK_NB)
-        except BlockingIOError:
-            return True
-        except OSError:
-            return False  # a file system without locks
-    return False
+        return not lock(opened.fileno())

@@ -4,12 +4,9 @@ from __future__ import annotations
 
 from typing import Callable, Optional
 
-from bpfrec.formats.limits import HEADER_LEN
+from bpfrec.formats.limits import HEADER_LEN, MAX_SETUP_PACKET_LEN
 from bpfrec.formats.packet import Header, has_right_sum, header_or_fault
 from bpfrec.formats.transfer import Datagram, Part
-
-# What a setup record has at most, which is the longest packet.
-MAX_PACKET_LEN = 134_217_728
 
 
 class Assembling:
@@ -105,4 +102,4 @@ class Assembling:
 def header_in(head: bytes) -> Optional[Header]:
     """The header that bytes are; None where they are none, or no packet is that long."""
     found = header_or_fault(head) if len(head) == HEADER_LEN else None
-    return found if isinstance(found, Header) and found.packet_len <= MAX_PACKET_LEN else None
+    return found if isinstance(found, Header) and found.packet_len <= MAX_SETUP_PACKET_LEN else None

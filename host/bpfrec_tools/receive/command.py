@@ -48,6 +48,8 @@ A line `gap <n> datagrams before <number>` on standard error says what is missin
 too late; damaged those that are none of this format, and packets with a wrong checksum, which aren't written.
 The stream is what the first sender sends, by address and port, until that is silent for 2 s. Foreign are datagrams of
 others. Nobody proves who sends: who can send here under the sender's address can write into OUT.
+A recorder whose interfaces are quiet sends a datagram each second. A line says where nothing has come for 3 s, from whom
+and since when, and another one when datagrams come again.
 
 Status: 0 nothing is missing. 1 a datagram was lost or damaged, a stream broke off, or nothing came. 2 the arguments are
 wrong, 3 the address can't be had, or OUT can't be written or is taken, 4 out of memory.
@@ -103,7 +105,7 @@ class Receiver:
         self.window = Window(self.assembling.add, self.gap, self.restart)
         self.datagrams = self.damaged = self.gaps = self.broken = 0
         self.last_at: Optional[float] = None
-        self.source = Source(given.sender, self.window.begin_anew, err)
+        self.source = Source(str(given.address), given.sender, self.window.begin_anew, err)
         # When what has come is left at the end.
         self.ends: Optional[float] = None
 
@@ -145,6 +147,7 @@ class Receiver:
                 self.read()
             else:
                 self.window.give_up()
+            self.source.look(time.monotonic())
             self.files.flush()
         self.ends = self.ends or time.monotonic() + LAST
         while self.read():

@@ -9,14 +9,13 @@ from contextlib import suppress
 from typing import Optional
 
 from bpfrec.formats.body import BadBody
-from bpfrec.formats.limits import BODY_WORD_LEN, ETHERNET_DATA, HEADER_LEN, RECORD_CHANNEL
+from bpfrec.formats.limits import BODY_WORD_LEN, ETHERNET_DATA, HEADER_LEN, RECORD_CHANNEL, SETUP
 from bpfrec.formats.names import Names
 from bpfrec.formats.packet import Header
 from bpfrec.formats.records import End, record_in
 from bpfrec_tools.cli.streams import STREAM, Output
 from bpfrec_tools.receive.shown import Shown
 
-SETUP = 0x01
 # How many bytes of packets wait for the first setup record, at most, and those that each takes beside its own.
 MOST_KEPT, OVERHEAD = 64 << 20, 512
 # How many files begin in a second, at most.
@@ -48,7 +47,7 @@ class Files:
 
     def take(self, header: Header, packet: bytes) -> None:
         """Takes a packet: those ahead of the first setup record wait for it."""
-        if header.channel == RECORD_CHANNEL and header.kind == SETUP:
+        if header.is_setup():
             self.take_setup(header, packet)
         elif self.text is None:
             self.keep(header, packet)

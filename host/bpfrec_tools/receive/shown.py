@@ -3,16 +3,14 @@
 from __future__ import annotations
 
 import os
-from contextlib import suppress
-from typing import BinaryIO, Optional
+from typing import BinaryIO
 
 from bpfrec.formats.body import Frames
-from bpfrec.formats.facts import Facts, NoFacts
-from bpfrec.formats.limits import HEADER_LEN
 from bpfrec.formats.packet import Header, body_of, data_of
 from bpfrec.formats.records import Program
-from bpfrec.formats.whole_file import SETUP, WholeFile, is_own
+from bpfrec.formats.whole_file import is_own
 from bpfrec_tools.follow.view import View, moment_in
+from bpfrec_tools.follow.within import Within
 
 
 class Shown:
@@ -21,9 +19,7 @@ class Shown:
     def __init__(self, verb: str, out: BinaryIO) -> None:
         self.out = out
         self.view = View(verb, out, [])
-        self.whole, self.text = WholeFile(), b""
-        # The times by the time packets so far.
-        self.known: Optional[Facts] = None
+        self.within = Within()
         self.has_reader = True
 
     def take(self, header: Header, packet: bytes) -> None:
@@ -32,22 +28,11 @@ class Shown:
             return
         try:
             if is_own(header.kind):
-                self.take_own(header, packet)
+                self.within.take(header, packet)
             else:
                 self.take_body(header, packet)
         except BrokenPipeError:
             self.leave()
-
-    def take_own(self, header: Header, packet: bytes) -> None:
-        """Takes a setup record, with another text of another stream, or a time packet."""
-        if header.kind == SETUP and packet[HEADER_LEN:] != self.text:
-            self.whole, self.text = WholeFile(), packet[HEADER_LEN:]
-        before = len(self.whole.clocks)
-        self.whole.take(header, packet)
-        if len(self.whole.clocks) > before:
-            # Times that no facts have are those of none.
-            with suppress(NoFacts):
-                self.known = self.whole.facts()
 
     def take_body(self, header: Header, packet: bytes) -> None:
         """Shows frames, or notes a filter."""
@@ -55,15 +40,11 @@ class Shown:
         if fault is not None:
             return
         if isinstance(what, Program):
-            self.view.program(what, self.name(what.channel))
+            self.view.program(what, self.within.name(what.channel))
         elif isinstance(what, Frames):
-            interface = self.view.interface(header.channel, self.name(header.channel))
+            interface = self.view.interface(header.channel, self.within.name(header.channel))
             for counter, marks, frame in self.view.frames_in(what, data_of(header, packet)):
-                self.view.frame(interface, moment_in(self.known, counter), marks, frame)
-
-    def name(self, channel: int) -> str:
-        """What the setup record calls a channel."""
-        return self.whole.name_of(channel) or f"channel {channel}"
+                self.view.frame(interface, moment_in(self.within.known, counter), marks, frame)
 
     def flush(self) -> None:
         """Has the reader see what was shown."""

@@ -7,24 +7,30 @@ import argparse
 import ipaddress
 import socket
 import struct
+import time
 from contextlib import suppress
 from typing import Any, Callable, Optional, Union
 
 from bpfrec_tools.cli.addresses import UdpAddress
 
 Address = Union[ipaddress.IPv4Address, ipaddress.IPv6Address]
-# For how many seconds a sender is silent until another one is taken.
-SILENCE = 2.0
+# For how many seconds a sender is silent until another one is taken, and until a line says so: one that is there sends a
+# datagram each second.
+SILENCE, DEAD = 2.0, 3.0
 
 
 class Source:
-    """The sender of the stream, by its address and port. `begin_anew` is called where another one takes its place, and
-    `report` takes a line of the first datagram that is another's."""
+    """The sender of the stream that comes to an address, by its own and its port. `begin_anew` is called where another one
+    takes its place, and `report` takes a line of the first datagram that is another's, and of silences."""
 
-    def __init__(self, asked: Optional[Address], begin_anew: Callable[[], None], report: Callable[[str], None]) -> None:
-        self.asked, self.begin_anew, self.report = asked, begin_anew, report
+    def __init__(
+        self, where: str, asked: Optional[Address], begin_anew: Callable[[], None], report: Callable[[str], None]
+    ) -> None:
+        self.where, self.asked, self.begin_anew, self.report = where, asked, begin_anew, report
         self.sender: Optional[tuple[str, int]] = None
-        self.last_at = 0.0
+        # When its last datagram came, or this began; and the time at which the silence began that was said last.
+        self.last_at = time.monotonic()
+        self.dead_since = ""
         self.foreign = 0
 
     def takes(self, address: tuple[Any, ...], now: float) -> bool:
@@ -36,8 +42,20 @@ class Source:
             return False
         if self.sender not in (None, sender):
             self.begin_anew()
+        if self.dead_since:
+            self.report(f"datagrams come again, of {sender[0]} port {sender[1]}, after {now - self.last_at:.1f} s")
+            self.dead_since = ""
         self.sender, self.last_at = sender, now
         return True
+
+    def look(self, now: float) -> None:
+        """Says once where nothing at all has come for a while, as from a quiet recorder it would."""
+        if self.dead_since or now - self.last_at < DEAD:
+            return
+        self.dead_since = time.strftime("%Y-%m-%dT%H:%M:%SZ", time.gmtime(time.time() - (now - self.last_at)))
+        asked = f" from {self.asked}" if self.asked else ""
+        whose = f" from {self.sender[0]} port {self.sender[1]}" if self.sender else asked
+        self.report(f"nothing has come to {self.where}{whose} since {self.dead_since}")
 
     def leave_out(self, sender: tuple[str, int]) -> None:
         """Counts a datagram that is another's."""
