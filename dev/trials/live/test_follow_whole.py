@@ -82,9 +82,9 @@ def test_a_channel_is_asked_for_by_its_id_or_its_name(work: Path) -> None:
     without = bytearray(path.read_bytes())
     without[60] ^= 1
     (work / "unnamed.ch10").write_bytes(without)
-    lines[work / "unnamed.ch10"] = (
-        "no setup record or no time packet of it can be read, so --channel takes numbers, as 1"
-    )
+    lines[
+        work / "unnamed.ch10"
+    ] = "no setup record or no time packet of it can be read, so --channel takes numbers, as 1"
     for file, line in lines.items():
         done = outcome(FOLLOW, "--channel", "bus", file, errors="replace")
         is_said = done.stderr.endswith(f"bpfrec follow: {file}: {line}\n")

@@ -3,21 +3,21 @@ whatever pieces the recording comes, as soon as it can go; and what is refused."
 
 import os
 import random
-import resource
 import select
 import subprocess
 import time
 from pathlib import Path
 
 import pytest
-from drawn_recording import DrawnRecording, drawn_insns
+from drawn_recording import DrawnRecording
 from frames import COMPUTER, FRAMES, body_of, packet_of
 from packets import packets_in
 from reading import SAMPLES
 from second_opinion import opinion_of
+from stream_trials import CHANNELS, NOW, ORIGIN, SECOND, drawn, frame, judge_stream, settings, streamed
 from streamed import Stream
 from support import BPFREC, judge, judge_quietly, outcome
-from whole_file import Origin, Refused, Setup
+from whole_file import Origin, Setup
 from whole_file_trials import setup_text
 
 pytestmark = pytest.mark.wanted("bin/bpfrec")
@@ -25,73 +25,6 @@ SECOND = 10_000_000
 ORIGIN = 1_764_590_400_250_000_123
 YEAR_4000 = 64_060_588_800 * 10**9
 LAST_COUNTER = 2**48 - 1
-CHANNELS = {channel: ("channel", 0) for channel in (1, 2, 3)}
-NOW = Setup((Origin(0, ORIGIN),), channels=CHANNELS)
-
-
-def settings(work: Path, setup: str) -> Path:
-    file = work / "stream.toml"
-    file.write_text(setup)
-    return file
-
-
-def streamed(work: Path, data: bytes, setup: Setup) -> subprocess.CompletedProcess:
-    """How the command ends that reads the recording."""
-    words = [BPFREC, "chapter11", "--stream", settings(work, setup_text(setup))]
-    # SETUP of 65,535 channels takes long where much else runs.
-    return outcome(*words, input=data, text=False, seconds=120)
-
-
-def expected(data: bytes, setup: Setup) -> tuple[bytes, int, str]:
-    """What the second writer makes of it: bytes, exit status and the line on standard error."""
-    try:
-        stream = Stream(setup)
-    except Refused as fault:
-        return b"", 1, f"{fault}\n"
-    try:
-        for packet in packets_in(data):
-            stream.put(*packet)
-    except Refused as fault:
-        return bytes(stream.file.data), 1, f"{fault}\n"
-    return bytes(stream.file.data), 0, f"{stream.line()}\n"
-
-
-def judge_stream(work: Path, what: str, data: bytes, setup: Setup = NOW) -> str:
-    """The command writes what the second writer writes: the line that it prints."""
-    done = streamed(work, data, setup)
-    out, status, line = expected(data, setup)
-    told = done.stderr.decode()
-    judge_quietly(what, (done.returncode, told) == (status, line), (done.returncode, told, status, line))
-    judge_quietly(f"{what}: its bytes", done.stdout == out, (len(done.stdout), len(out)))
-    return line
-
-
-def frame(counter: int, length: int = 60) -> tuple[int, int, int]:
-    return counter, 0, length
-
-
-def drawn(draw: random.Random, channels: list[int], start: int, seconds: int, lag: int) -> DrawnRecording:
-    """A recording of so many seconds, whose packets stand in the order of their last frames but for a lag."""
-    made, packets = DrawnRecording(), []
-    for channel in channels:
-        if draw.random() < 0.8:
-            made.add_program(channel, 0, start, drawn_insns(draw))
-        counters = sorted(start + draw.randrange(seconds * SECOND) for _ in range(draw.choice([0, 1, 5, 300])))
-        if draw.random() < 0.2:
-            draw.shuffle(counters)
-        frames = [(it, draw.choice([0, 0, 1, 2]), draw.randrange(18, 200)) for it in counters]
-        while frames:
-            size = draw.randrange(1, 80)
-            packets.append((frames[:size][-1][0] + draw.randrange(lag + 1), channel, frames[:size]))
-            frames = frames[size:]
-    for _, channel, frames in sorted(packets):
-        if draw.random() < 0.05:
-            made.add(channel, b"\xaa" * 8, 0x40, start, "other")
-        made.add_frames(channel, frames)
-    for channel in channels:
-        counters = made.channel(channel).counters()
-        made.add_end(channel, draw.choice([0, 3]), draw.choice(counters) if counters else start)
-    return made
 
 
 # ---- streams of all kinds
@@ -258,42 +191,6 @@ def test_refusals(work: Path) -> None:
     judge("a year under way", judge_stream(work, "to 4000", bytes(long.data), turn) == "refused 5 Year 0\n")
     full = Setup((Origin(0, ORIGIN),), channels={it: ("c", 0) for it in range(1, 65_536)})
     judge("no channel left", judge_stream(work, "full", some, full) == "refused 7 Full 0\n")
-
-
-@pytest.mark.parametrize("seed", range(40))
-def test_hostile_recordings(work: Path, seed: int) -> None:
-    """Bytes changed, cut and doubled: a named end, and what went out is a beginning of what the packets ahead give."""
-    draw = random.Random(seed)
-    data = bytearray(drawn(draw, [1, 2, 3], 0, 3, SECOND).data)
-    for _ in range(draw.choice([1, 3])):
-        at = draw.randrange(len(data))
-        data[at] ^= 1 << draw.randrange(8)
-    done = streamed(work, bytes(data[: draw.randrange(len(data))]), NOW)
-    told = done.stderr.decode()
-    is_named = told.startswith(("read ", "refused ", "packets ")) and told.count("\n") == 1
-    holds = is_named and done.returncode == (0 if told.startswith("packets ") else 1)
-    judge("a named end", holds, (told, done.returncode))
-
-
-def test_memory_is_bounded(work: Path) -> None:
-    """Two hundred megabytes of frames in 64 MiB of data."""
-    made = DrawnRecording()
-    made.add_frames(1, [frame(number * 1_000, 1_500) for number in range(300)])
-    one = bytes(made.data)
-
-    def bound() -> None:
-        resource.setrlimit(resource.RLIMIT_DATA, (64 << 20, 64 << 20))
-
-    words = [str(BPFREC), "chapter11", "--stream", str(settings(work, setup_text(NOW)))]
-    with subprocess.Popen(
-        words, stdin=subprocess.PIPE, stdout=subprocess.DEVNULL, stderr=subprocess.PIPE, preexec_fn=bound
-    ) as process:
-        assert process.stdin and process.stderr
-        for _ in range(400):
-            process.stdin.write(one)
-        process.stdin.close()
-        told = process.stderr.read().decode()
-        judge("all of it", process.wait() == 0 and told.startswith("packets "), told)
 
 
 @pytest.mark.parametrize("what", ["", "a", 'z = 1\norigin = "0"', 'origin = "0"\n[[channel]]\nid = 0'])
