@@ -90,7 +90,7 @@ def test_a_body_that_is_damaged(work: Path, number: int) -> None:
 def test_a_length_that_claims_more_than_there_is(work: Path, kind: int, length: int) -> None:
     """With a header's sum that is right: it takes no memory but for what came."""
     ahead, data = sample(), length - 28
-    for claimed in ({data, data + 4, 0xFFFFFFFF} if length > 28 else {4, 0xFFFFFFFF}):
+    for claimed in {data, data + 4, 0xFFFFFFFF} if length > 28 else {4, 0xFFFFFFFF}:
         head = header_of(1, (length, claimed), 0, kind, SECOND, True)
         is_long = claimed > data or kind == FRAMES and length > 524_288
         wanted = f"read {'4 Length' if is_long else '1 Truncated'} {len(ahead)}\n".encode()

@@ -138,6 +138,8 @@ def judge_cuts(work: Path, data: bytes, out: bytes, draw: random.Random) -> None
     for cut in sorted({*draw.sample(places, 8), *draw.choices(range(len(data)), k=8)}):
         done = streamed(work, data[:cut], NOW)
         begins, *_ = expected(data[: max(it for it in [*places, len(data)] if it <= cut)], NOW)
-        judge_quietly(f"cut at {cut}", done.stdout == begins and out.startswith(begins), (len(done.stdout), len(begins)))
+        judge_quietly(
+            f"cut at {cut}", done.stdout == begins and out.startswith(begins), (len(done.stdout), len(begins))
+        )
         told = (done.returncode, done.stderr.startswith(b"packets "))
         judge_quietly(f"its end at {cut}", told == ((0, True) if cut in places else (1, False)), done.stderr)
