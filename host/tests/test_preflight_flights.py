@@ -4,7 +4,7 @@ from pathlib import Path
 
 import pytest
 from bpfrec.formats.settings import settings_of
-from bpfrec_tools.live.ahead import refuse_without_id
+from bpfrec_tools.live.ahead import refuse_lacking
 from bpfrec_tools.live.arguments import arguments_of, given_by, read
 from bpfrec_tools.live.kept.names import Refusal
 from bpfrec_tools.preflight.flights import judge_flight
@@ -38,10 +38,10 @@ def test_what_only_follows_from_an_id_that_is_missing_is_no_fault(
 def test_live_names_the_file_and_the_line(work: Path) -> None:
     for text, place in {CHANNEL: "s.toml:1", f"{RUN}{CHANNEL}": "s.toml:4", "channel = [{}]": "s.toml:1"}.items():
         with pytest.raises(Refusal) as caught:
-            refuse_without_id(settings_of("s.toml", text))
+            refuse_lacking(settings_of("s.toml", text), read(["s.toml", "o.ch11"]))
         line = f"bpfrec live: {place}: channel table 1: settings 3 Missing id"
         judge(place, (caught.value.status, caught.value.line) == (2, line), caught.value.line)
-    refuse_without_id(settings_of("s.toml", "[[channel]]\nid = 1\n"))
+    refuse_lacking(settings_of("s.toml", "[[channel]]\nid = 1\n"), read(["s.toml", "o.ch11", "eth0=1"]))
 
 
 def channels(*named: str) -> str:

@@ -1,6 +1,7 @@
 """Tries what bpfrec live and bpfrec preflight say of calls that are wrong: in words that say what to do, with
 nothing begun or left."""
 
+import fcntl
 import os
 from pathlib import Path
 from typing import Any
@@ -82,6 +83,11 @@ def test_a_name_behind_two_dashes_is_out(work: Path) -> None:
 # ---- the words
 
 
+NO_CAPTURE = "OUT is a recording, as flight.ch11, of which bpfrec export makes a capture"
+UNFED = "settings 3 Missing feed: no interface is this channel, as eth0=2"
+READ = "which is read"
+
+
 def refusals(work: Path) -> list[tuple[list, int, str]]:
     """Calls, what they end with, and what is said of them."""
     settings = settings_of(work)
@@ -92,6 +98,11 @@ def refusals(work: Path) -> list[tuple[list, int, str]]:
         (["rx0=1", "OUT"], 3, "rx0=1 is an interface: SETTINGS, OUT, then interfaces"),
         (["rx0", "rx1"], 2, "rx0 is an interface: SETTINGS, OUT, then interfaces"),
         (["nosuch.toml", "OUT", "rx0=1"], 3, "nosuch.toml: no such file"),
+        (["nosuch.toml"], 3, "nosuch.toml: no such file"),
+        (["o.pcap", "rx0"], 2, f"o.pcap: {NO_CAPTURE}"),
+        ([settings, "o.pcapng", "rx0=1"], 2, f"o.pcapng: {NO_CAPTURE}"),
+        ([settings, one, "rx0=1"], 2, f"{settings}:8: channel 2: {UNFED}"),
+        ([settings, "--force", settings.parent / "all", "rx0=1", "rx1=2"], 3, f"{work}/all: it is {work}/all itself, {READ}"),
         (["private", "OUT"], 3, "private: it is a directory"),
         (["--require-clock", "1", "sec", "OUT", "rx0"], 3, "sec: no such file"),
         (["/no/o.ch11", "rx0"], 3, "/no/o.ch11: no such folder"),
@@ -121,6 +132,22 @@ def test_what_is_wrong_with_the_words_is_said_with_what_they_should_be(work: Pat
     (work / "told").touch()
     for words, status, told in cases:
         judge_refused(work, words, status, told)
+
+
+def test_an_id_that_two_channels_have_is_refused_ahead(work: Path) -> None:
+    settings = write_settings(work, *[f'id = 1\nfilter = "{work}/all"'] * 2)
+    (work / "told").touch()
+    judge_refused(work, [settings, "o.ch11", "rx0=1"], 2, f"{settings}:8: channel 1: settings 6 SameChannel 1")
+
+
+def test_an_out_that_another_program_writes_is_refused_also_by_force(work: Path) -> None:
+    out = work / "o.ch11"
+    (work / "told").touch()
+    with open(out, "wb") as held:
+        fcntl.flock(held, fcntl.LOCK_EX)
+        judge_refused(work, ["--force", out, "rx0"], 3, f"{out}: another program writes it")
+        done = outcome(PREFLIGHT, "--live", "--force", out, "rx0", cwd=work)
+        judge("preflight says so too", done.returncode == 1 and "another program writes it" in done.stdout, done)
 
 
 TAPS = ["rx0=1", "rx1=2"]

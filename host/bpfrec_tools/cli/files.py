@@ -85,3 +85,12 @@ def file_id(path: str) -> Optional[tuple[int, int]]:
     except (OSError, ValueError):
         return None
     return status.st_dev, status.st_ino
+
+
+def is_locked(path: str) -> bool:
+    """Whether another program has locked a file, as a recorder does while it writes."""
+    try:
+        with open(path, "rb+") as file:
+            return not lock(file.fileno())
+    except OSError:
+        return False  # a file that may not be written

@@ -5,10 +5,11 @@ from __future__ import annotations
 import os
 import resource
 import shutil
-from typing import Iterator
+from typing import Container, Iterable, Iterator
 
-from bpfrec.formats.settings import Settings
+from bpfrec.formats.settings import Channel, Settings
 from bpfrec_tools.cli.signatures import Unsigned
+from bpfrec_tools.cli.streams import input_at
 from bpfrec_tools.live.arguments import Arguments
 from bpfrec_tools.live.control.sockets import MOST_CLIENTS, Heard, is_left
 from bpfrec_tools.live.kept.clock_watch import by_the_kernel
@@ -53,12 +54,37 @@ def refuse_many_channels(settings: Settings) -> None:
         raise refused(2, f"{settings.file}: {fault}")
 
 
-def refuse_without_id(settings: Settings) -> None:
-    """Refuses a channel without an ID, in the words of record."""
+def refuse_lacking(settings: Settings, given: Arguments) -> None:
+    """Refuses a channel without an ID, with that of another one, or with neither an interface nor a feed, in the words of
+    record."""
+    known: list[Channel] = []
+    routed = {it.channel for it in given.routes}
     for channel in settings.channels:
-        if "id" not in channel.table:
+        what = lack_of(channel, known, routed)
+        if what:
             place = ":".join(str(it) for it in (settings.file, channel.line("id")) if it)
-            raise refused(2, f"{place}: {channel.name}: settings 3 Missing id")
+            raise refused(2, f"{place}: {channel.name}: {what}")
+        known.append(channel)
+
+
+def lack_of(channel: Channel, known: list[Channel], routed: Container[object]) -> str:
+    """What a channel lacks, beside those ahead of it; nothing of an ID that is none, which the recorder refuses."""
+    if "id" not in channel.table:
+        return "settings 3 Missing id"
+    if channel.id() is None:
+        return ""
+    if any(it.id() == channel.id() for it in known):
+        return f"settings 6 SameChannel {channel.id()}"
+    is_fed = "feed" in channel.table or channel.id() in routed
+    return "" if is_fed else f"settings 3 Missing feed: no interface is this channel, as eth0={channel.id()}"
+
+
+def refuse_inputs(given: Arguments, channels: Iterable[Channel]) -> None:
+    """Refuses an OUT that the run reads, into which it would be written."""
+    inputs = [it.path(key) for it in channels for key in ("filter", "feed")]
+    taken = None if given.is_rotating() else input_at(given.out, filter(None, [given.sign, *inputs]))
+    if taken:
+        raise refused(3, f"{given.out}: it is {taken} itself, which is read")
 
 
 def refuse_feeds_alone(given: Arguments) -> None:

@@ -47,6 +47,8 @@ def operands_of(operands: list[str]) -> Operands:
     """What the operands say; a Refusal names what is missing or wrong."""
     help_text = f"{name_of('live')} --help has its arguments"
     if not operands or (len(operands) == 1 and names_settings(operands)):
+        if operands and operands[0] != STREAM and not os.path.lexists(operands[0]):
+            raise refused(3, f"{operands[0]}: no such file")
         raise refused(2, f"it takes SETTINGS and OUT: {help_text}")
     refuse_expressions(operands)
     if names_settings(operands):
@@ -54,11 +56,13 @@ def operands_of(operands: list[str]) -> Operands:
         refuse_interface(settings, 3)
         if settings != STREAM and not os.path.lexists(settings) and any("=" not in it for it in rest):
             raise refused(3, f"{settings}: no such file")
+        refuse_capture(out)
         if is_route(out):
             raise refused(2, f"OUT is missing: it stands between {settings} and {out}")
         return Operands(settings, dashed(out), routes_of(rest))
     out, *rest = operands
     refuse_interface(out, 2)
+    refuse_capture(out)
     if not rest:
         raise refused(2, f"an INTERFACE is missing: it stands behind {out}")
     twice = next((it for it in rest if "=" not in it and rest.count(it) > 1), None)
@@ -85,6 +89,12 @@ def refuse_interface(operand: str, status: int) -> None:
     found = ROUTE.fullmatch(operand)
     if found and is_interface(found["interface"]) and not os.path.lexists(operand):
         raise refused(status, f"{operand} is an interface: SETTINGS, OUT, then interfaces")
+
+
+def refuse_capture(out: str) -> None:
+    """Refuses a capture in the place of OUT."""
+    if out.endswith(CAPTURES):
+        raise refused(2, f"{out}: OUT is a recording, as flight.ch11, of which bpfrec export makes a capture")
 
 
 def dashed(out: str) -> str:

@@ -10,7 +10,7 @@ from typing import Optional
 
 from bpfrec.formats.limits import BUFFERS_BESIDE_RING, TOP_KEYS
 from bpfrec.formats.settings import Channel, Settings, number_fault
-from bpfrec_tools.cli.files import file_id, lock
+from bpfrec_tools.cli.files import file_id, is_locked
 from bpfrec_tools.cli.quantities import size_text
 from bpfrec_tools.preflight.report import Report, place
 
@@ -68,7 +68,7 @@ def judge_old_out(out: str, folder: str, report: Report) -> None:
         report.fault(out, f"file {out}: a socket")
     elif not os.access(out, os.W_OK):
         report.fault(out, f"file {out}: forbidden")
-    elif stat.S_ISREG(mode) and os.access(out, os.R_OK) and is_locked(out):
+    elif stat.S_ISREG(mode) and is_locked(out):
         report.fault(out, f"file {out}: another program writes it")
     elif stat.S_ISREG(mode):
         report.note(out, f"is there with {os.path.getsize(out)} bytes, and will be emptied; {free_room(folder)}")
@@ -100,9 +100,3 @@ def is_input_beside(out: str, settings_file: str, channels: list[Channel], repor
     for at, what in found:
         report.fault(at, f"file {out}: {what}")
     return bool(found)
-
-
-def is_locked(file: str) -> bool:
-    """Whether another program has locked a file, as a recorder does while it writes."""
-    with open(file, "rb+") as opened:
-        return not lock(opened.fileno())

@@ -9,6 +9,7 @@ import stat
 from typing import NamedTuple, Optional
 
 from bpfrec.formats.names import facts_path, signature_path
+from bpfrec_tools.cli.files import is_locked
 from bpfrec_tools.live.said import said
 
 # Who may read a recording and its facts, but for what umask takes away.
@@ -99,6 +100,8 @@ class Files(NamedTuple):
         for path in (out, facts_path(out), signature_path(facts_path(out)), *beside):
             if os.path.lexists(path) and (not self.is_forced or os.path.islink(path)):
                 raise refused(3, f"{path} is there: {advice(path, self.is_forced)}")
+        if os.path.isfile(out) and is_locked(out):
+            raise refused(3, f"{out}: another program writes it")
 
 
 def created_beside(path: str, files: Files) -> tuple[str, int]:
