@@ -27,8 +27,10 @@ WORDS: dict[str, tuple[str, ...]] = {
 }
 # Of a run so many recordings are looked at, the last.
 MOST_RECORDINGS = 8
-# What the value of an option is, by how its help calls it: the ending of a file, or an interface.
-VALUE_FILES = {"FILE": "*", "KEY": "*", "SIGNERS": "*", "COMMAND": "*", "PATH": "*"}
+# What the value of an option is, by how its help calls it: the endings of a file.
+VALUE_FILES = {"FILE": "*", "KEY": "*", "SIGNERS": "*", "COMMAND": "*", "PATH": "*", "ARGUMENT": "toml ch11"}
+# The place of an operand that is no file: an expression, or an address.
+WORDED = {"filter": 0, "receive": 0, "publish": 1}
 
 
 def beginning_with(word: str, offers: Iterable[str]) -> list[str]:
@@ -78,7 +80,7 @@ def values(action: argparse.Action, before: list[str], word: str) -> list[str]:
         return interfaces(word)
     if before[-1] == "--channel":
         return channels(before[:-1], word)
-    return files(word, [VALUE_FILES[name]]) if name in VALUE_FILES else []
+    return files(word, VALUE_FILES[name].split()) if name in VALUE_FILES else []
 
 
 def of_tool(verb: str, words: list[str]) -> list[str]:
@@ -92,10 +94,21 @@ def of_tool(verb: str, words: list[str]) -> list[str]:
         options = [it for action in parser._actions for it in action.option_strings if it.startswith("--")]
         return beginning_with(word, [*options, "--version"])
     if verb == "tell" and before:
-        lines = beginning_with(word, LINES) if len(before) == 1 else []
-        return channels(before[:1], word) if before[1:] == ["set"] else lines
+        return of_line(before[0], before[1:], word)
+    if sum(not it.startswith("-") for it in before) == WORDED.get(verb):
+        return []
     offers = files(word, verbs.VERBS[verb].kinds.split() or ["*"])
     return [*offers, *interfaces(word)] if verb in ("live", "preflight") and before else offers
+
+
+def of_line(run_name: str, before: list[str], word: str) -> list[str]:
+    """What a line to a run takes as its last word."""
+    if not before:
+        return beginning_with(word, LINES)
+    if before == ["set"]:
+        return channels([run_name], word)
+    is_filter = before[0] == "set" and len(before) == 2
+    return [*beginning_with(word, ["all"]), *files(word, ["bpf", "txt"])] if is_filter else []
 
 
 def of_capture(words: list[str]) -> list[str]:

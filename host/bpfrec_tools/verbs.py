@@ -35,7 +35,9 @@ GROUPS = {
             "toml ch11",
         ),
         "tell": tool(
-            "sends lines to a recording that goes on, and waits for answers", "bpfrec tell flight.ch11 mark gear up"
+            "sends lines to a recording that goes on, and waits for answers",
+            "bpfrec tell flight.ch11 mark gear up",
+            "toml ch11",
         ),
     },
     "Look": {

@@ -49,6 +49,12 @@ OFFERS = {
     "capture --direction ": {"both", "in", "out"},
     "capture --ch": {"--check-sequence"},
     "capture l": {"lo"},
+    "tell ": {"one.ch11", "four.toml", "sub"},
+    "tell sub/named set 1 ": {"all", "two.txt", "three.bpf", "sub"},
+    "tell sub/named mark ": set(),
+    "filter ": set(),
+    "publish one.ch11 ": set(),
+    "preflight --live ": {"one.ch11", "four.toml", "sub"},
     "nonsense ": set(),
 }
 
