@@ -24,6 +24,10 @@ enum {
     BYTES_A_MIB = 1 << 20,
     MOST_INTERFACE = 65535,
     WRONG_ARGUMENTS = 2,
+    /* The longest name of an option has fewer letters; and so many of them may be wrong where it is meant. */
+    LONGEST_OPTION = 32,
+    MOST_SLIPS = 3,
+    MOST_DASHES = 2,
 };
 
 enum {
@@ -204,6 +208,46 @@ static int wrong(const char *what, const char *argument) {
     return WRONG_ARGUMENTS;
 }
 
+/* How many letters must be changed, put in or left out to make another word of one, ahead of its value. */
+static size_t distance(const char *word, const char *other) {
+    size_t length = strlen(other), row[LONGEST_OPTION + 1];
+    for (size_t j = 0; j <= length; j++)
+        row[j] = j;
+    for (size_t i = 1; word[i - 1] != 0 && word[i - 1] != '='; i++) {
+        size_t left_above = row[0];
+        row[0] = i;
+        for (size_t j = 1; j <= length; j++) {
+            size_t above = row[j], changed = left_above + (word[i - 1] != other[j - 1]);
+            size_t less = above < row[j - 1] ? above : row[j - 1];
+            row[j] = changed < less + 1 ? changed : less + 1;
+            left_above = above;
+        }
+    }
+    return row[length];
+}
+
+/* The option that a word of two dashes means; NULL where none is like it. */
+static const char *option_like(const char *word) {
+    const char *name = word + MOST_DASHES, *nearest = OPTIONS[0].name;
+    for (const struct option *at = OPTIONS; at->name != NULL; at++)
+        if (distance(name, at->name) < distance(name, nearest))
+            nearest = at->name;
+    return distance(name, nearest) <= MOST_SLIPS ? nearest : NULL;
+}
+
+/* Says what is wrong with an option, by what getopt says of it and its word: the status. */
+static int wrong_option(int found, const char *word) {
+    char letter[] = {'-', (char)optopt, 0};
+    if (found == ':')
+        return wrong("a value is missing behind ", word);
+    if (optopt >= FIRST_LONG)
+        return wrong("it takes no value: ", word);
+    if (optopt != 0 || option_like(word) == NULL)
+        return wrong("no such option: ", optopt != 0 ? letter : word);
+    log_line("no such option: %s: did you mean --%s?", word, option_like(word));
+    return WRONG_ARGUMENTS;
+}
+
 /* Says what an option takes, where its value is not that: the status. */
 static int wrong_value(int option, const char *value) {
     const struct option *known = OPTIONS;
@@ -276,13 +320,16 @@ static int show(const char *text) {
 /* Reads the options. 0, or the status with which to end. `origin` is the one that is given, NULL where none is. */
 static int read_options(int argc, char **argv, struct arguments *arguments, bool *is_done, const char **origin) {
     int option, status = 0;
-    while (status == 0 && (option = getopt_long(argc, argv, "r:", OPTIONS, NULL)) != -1) {
+    opterr = 0;
+    while (status == 0 && (option = getopt_long(argc, argv, ":r:", OPTIONS, NULL)) != -1) {
         if (option == HELP || option == VERSION_ASKED) {
             *is_done = true;
             return show(option == HELP ? USAGE : "capture " VERSION "\n");
         }
-        if (option == '?' || arguments->routes == NULL || arguments->given == NULL)
-            return wrong("the arguments are wrong", "");
+        if (option == '?' || option == ':')
+            return wrong_option(option, argv[optind - 1]);
+        if (arguments->routes == NULL || arguments->given == NULL)
+            return wrong("there is no memory for the arguments", "");
         arguments->are_files |= option == 'r';
         if (option == ORIGIN)
             *origin = optarg;

@@ -172,9 +172,28 @@ def test_a_span_is_1_to_the_most_ticks_of_a_counter(arguments: Arguments, ticks:
 
 
 def test_an_unknown_option_or_one_without_its_value_is_refused(arguments: Arguments) -> None:
-    for given in (["--unknown"], ["-x"], ["--quiet=1"], ["--hold"], ["-r"], ["--origin"]):
-        done = arguments.outcome("eth0=pipe", *given)
-        assert (done.returncode, done.stdout) == (2, "") and done.stderr.endswith(f"the arguments are wrong{HINT}")
+    for given, what in {
+        "--unknown": "no such option: --unknown",
+        "-x": "no such option: -x",
+        "-xy": "no such option: -x",
+        "--quiet=1": "it takes no value: --quiet=1",
+        "--hold": "a value is missing behind --hold",
+        "-r": "a value is missing behind -r",
+    }.items():
+        assert arguments.refusal("eth0=pipe", given) == f"{what}{HINT}"
+
+
+def test_an_unknown_option_names_the_one_that_is_meant(arguments: Arguments) -> None:
+    for given, meant in {
+        "--dirction": "--direction",
+        "--checksequence": "--check-sequence",
+        "--HOLD": None,
+        "--bufferr=4": "--buffer",
+        "--dirction=both": "--direction",
+        f"--{'x' * 4_000}": None,
+    }.items():
+        told = arguments.refusal("eth0=pipe", given)
+        assert told == (f"no such option: {given}: did you mean {meant}?\n" if meant else f"no such option: {given}{HINT}")
 
 
 def test_help_with_each_option_and_the_version_are_printed_whatever_else_is_there(arguments: Arguments) -> None:

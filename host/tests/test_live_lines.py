@@ -109,6 +109,9 @@ REASONS = {
     "set 2": "it needs a channel and a filter, as set 7 udp port 5004",
     "set": "it needs a channel and a filter, as set 7 udp port 5004",
     "set 9 arp": "no channel 9: 1, 2",
+    "2 set arp": "no line 2, and help has all: did you mean set 2 arp?",
+    "gear up mark": "no line gear, and help has all: did you mean mark gear up?",
+    "set udp port 53 2": "no channel udp: 1, 2: the channel stands first, as set 2 udp port 53",
     "set eth9 arp": "no channel eth9: 1, 2",
     'set "bus A" arp': "no channel bus A: 1, 2",
 }

@@ -22,7 +22,7 @@ def bound(work: Path) -> Iterator[Path]:
     os.chdir(before)
 
 
-@pytest.mark.parametrize("name", ["flight.control", "flight.ch11", "flight", "flight.toml", "other.toml", "other"])
+@pytest.mark.parametrize("name", ["flight.control", "flight.ch11", "flight", "flight_00003.ch11", "flight.toml", "other.toml", "other"])
 def test_the_socket_is_found_by_its_path_the_runs_name_or_its_settings(bound: Path, name: str) -> None:
     Path("other.toml").write_text('[run]\nout = "o.ch11"\ncontrol = "flight.control"\n')
     judge(name, socket_of(name) == "flight.control", socket_of(name))
@@ -32,8 +32,29 @@ def test_the_socket_is_found_by_its_path_the_runs_name_or_its_settings(bound: Pa
 def test_where_there_is_none_the_name_is_said(bound: Path, name: str, beside: str) -> None:
     Path("plain.ch11").write_bytes(b"")
     done = outcome(TOOLS / "tell", name, "status", cwd=bound)
-    line = f"bpfrec tell: {name}: nobody listens there, or at {beside}\n"
+    ended = ": the run has ended, and plain.ch11 is its last recording" if name != "none" else ""
+    line = f"bpfrec tell: {name}: nobody listens there, or at {beside}{ended}\n"
     judge("nobody listens", (done.returncode, done.stderr) == (3, line), done)
+
+
+def test_a_recording_that_was_written_tells_of_its_end(bound: Path) -> None:
+    for number in (1, 2):
+        Path(f"ended_{number:05}.ch11").write_bytes(b"")
+    for name in ("ended", "ended.ch11", "ended_00002.ch11"):
+        done = outcome(TOOLS / "tell", name, "status", cwd=bound)
+        end = "nobody listens there, or at ended.control: the run has ended, and ended_00002.ch11 is its last recording\n"
+        judge(name, (done.returncode, done.stderr) == (3, f"bpfrec tell: {name}: {end}"), done)
+
+
+def test_a_line_ahead_of_its_run_is_put_in_order(bound: Path) -> None:
+    for given, order in {
+        ("mark", "flight.ch11", "gear", "up"): "flight.ch11 mark gear up",
+        ("set", "2", "arp", "flight.toml"): "flight.toml set 2 arp",
+        ("next",): "RUN next",
+    }.items():
+        done = outcome(TOOLS / "tell", *given, cwd=bound)
+        line = f"bpfrec tell: RUN comes first: bpfrec tell {order}\n"
+        judge(" ".join(given), (done.returncode, done.stderr) == (2, line), done)
 
 
 def test_a_line_may_come_by_standard_input(bound: Path) -> None:

@@ -223,7 +223,7 @@ def test_a_run_of_interfaces_is_told_by_its_name(work: Path, namespace: None) ->
     """By the socket beside it, without --control; a second run of that name is refused while it goes on."""
     first = begin(work, work / "flight.ch11", "--quiet", "--every", "1h")
     judge("it is the owner's alone", stat.S_IMODE((work / "flight.control").stat().st_mode) == 0o600)
-    for name in ("flight.ch11", "flight", "flight.control"):
+    for name in ("flight.ch11", "flight", "flight.control", "flight_00001.ch11"):
         done = outcome(CONTROL, "--wait", 20, name, "mark", "gear up", cwd=work)
         judge(f"by {name}", done.returncode == 0 and done.stdout.startswith("marked "), done)
     words, what = ("--every", "1h", work / "flight.ch11", "rx0=1"), "flight.control: another run takes lines there"
@@ -232,7 +232,8 @@ def test_a_run_of_interfaces_is_told_by_its_name(work: Path, namespace: None) ->
     first.end_well()
     judge("the socket goes with the run", not (work / "flight.control").exists())
     done = outcome(CONTROL, "flight.ch11", "status", cwd=work)
-    line = "bpfrec tell: flight.ch11: nobody listens there, or at flight.control\n"
+    ended = "the run has ended, and flight_00001.ch11 is its last recording"
+    line = f"bpfrec tell: flight.ch11: nobody listens there, or at flight.control: {ended}\n"
     judge("nobody listens", (done.returncode, done.stderr) == (3, line), done)
 
 

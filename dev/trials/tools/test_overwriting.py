@@ -137,9 +137,44 @@ def test_what_is_no_recording_is_refused_by_name(work: Path) -> None:
         wanted = (1, "", f"bpfrec info: {path}: no recording ({guess}?)\n")
         judge("info says what it may be", (done.returncode, done.stdout, done.stderr) == wanted, done)
         done = outcome(SALVAGE, path, work / "out")
-        wanted = (1, "", f"bpfrec salvage: {path}: no recording: no packet of it is whole\n")
+        wanted = (1, "", f"bpfrec salvage: {path}: no recording ({guess}?): no packet of it is whole\n")
         judge("salvage refuses it", (done.returncode, done.stdout, done.stderr) == wanted, done)
-        judge("and leaves nothing", not (work / "out").exists())
+        for words in (["--as", "pcapng"], ["--as", "chapter11", "--origin", "1764590400"]):
+            done = outcome(EXPORT, *words, path, work / "out")
+            wanted = (1, "", f"bpfrec export: {path}: no recording ({guess}?)\n")
+            judge("so does export", (done.returncode, done.stdout, done.stderr) == wanted, done)
+        judge("and they leave nothing", not (work / "out").exists())
+        done = outcome(CHECK, path)
+        said = done.stdout.startswith(f"no recording ({guess}?)\n") and done.stdout.endswith("\nno\n")
+        judge("check says no", done.returncode == 1 and said, done)
+
+
+def test_a_recording_without_a_packet_is_no_answer(work: Path) -> None:
+    """But in a run, where others have some."""
+    empty, out = work / "empty.ch11", work / "out"
+    empty.write_bytes(b"")
+    for words in ([SALVAGE], [EXPORT, "--as", "pcapng"], [EXPORT, "--as", "chapter11", "--origin", "1764590400"]):
+        done = outcome(*words, empty, out)
+        judge("it is refused", done.returncode == 1 and "it is empty: there is no packet" in done.stderr, done)
+        judge("and nothing is made", not out.exists())
+    done = outcome(CHECK, empty)
+    judge("check says no", done.returncode == 1 and done.stdout.endswith("\nno\n"), done)
+    done = outcome(EXPORT, "--as", "pcapng", empty, SAMPLES[1], out)
+    judge("beside another one it is taken", done.returncode == 0 and out.exists(), done)
+
+
+def test_a_page_takes_no_other_files_place(work: Path) -> None:
+    other, page = work / "other.ch11", work / "page.html"
+    other.write_bytes(SAMPLES[0].read_bytes())
+    for path in (other, work / "notes.txt"):
+        path.write_bytes(b"notes" if path.suffix == ".txt" else other.read_bytes())
+        done = outcome(INFO, "--html", path, SAMPLES[1])
+        line = f"bpfrec info: {path} is there, and is no page: give FILE another name\n"
+        judge("it is refused", (done.returncode, done.stderr) == (3, line), done)
+    judge("and left", other.read_bytes() == SAMPLES[0].read_bytes())
+    for _ in range(2):
+        done = outcome(INFO, "--html", page, SAMPLES[1])
+        judge("a page may be made again", done.returncode == 0, done)
 
 
 def test_a_pipe_of_what_is_no_recording_is_refused_too(work: Path) -> None:

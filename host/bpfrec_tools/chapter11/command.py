@@ -25,6 +25,7 @@ from bpfrec_tools.cli.streams import (
     facts_at,
     refuse_inputs,
     refuse_overwriting,
+    refuse_strange,
     refuse_twice,
 )
 
@@ -173,6 +174,7 @@ def make(given: argparse.Namespace) -> int:
         with open(path, "rb") as file:
             if begins_whole_file(file.read(HEADER_LEN)):
                 raise Unusable(f"{path}: it is a whole Chapter 11 file, of which OUT.pcapng can be made")
+    refuse_strange(given.recordings)
     if len(given.recordings) > 1:
         make_of_several(given)
     else:

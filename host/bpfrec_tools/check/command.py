@@ -9,6 +9,7 @@ import stat
 import tempfile
 from typing import Optional
 
+from bpfrec.formats.guesses import guess_at
 from bpfrec.formats.names import all_of, facts_path
 from bpfrec_tools.check.judge import Judge
 from bpfrec_tools.check.order import in_order
@@ -52,7 +53,8 @@ and the counts, where <k> packets have no data checksum of 32 bits, or a seconda
   packets <n> data checksums <m> without <k> wrong <w>
 
 Of a file that begins with a setup record, which is a whole Chapter 11 file, setup record, time packets, order and index
-are checked too; a line `<at> <what>` says what is wrong. Of an empty file it prints `empty: there is no packet`.
+are checked too; a line `<at> <what>` says what is wrong. Of an empty file it prints `empty: there is no packet`, which is wrong
+without facts, and of a capture or a text `no recording (<what it is>)`.
 
 At last stands `audit: <answer>`, or `audit: not asked: <why>`, which is wrong.
 """
@@ -97,8 +99,12 @@ def is_right(path: str, judge: Optional[Judge], given: argparse.Namespace) -> bo
     if judge and not stat.S_ISREG(os.stat(path).st_mode):
         say("sums none: it is no regular file")
         return False
+    if guess_at(path):
+        say(f"no recording{guess_at(path)}")
     with open(path, "rb") as file:
         are_right = check_sums(file, say) and are_right
+    # By its facts a recording may be empty.
+    are_right = are_right and (os.path.getsize(path) > 0 or os.path.lexists(facts_path(path)))
     return (given.no_audit or audit_is_right(path, given.quiet)) and are_right
 
 

@@ -12,6 +12,7 @@ from typing import BinaryIO, Iterable, Iterator, Optional, cast
 
 from bpfrec.formats import facts
 from bpfrec.formats.facts import Facts
+from bpfrec.formats.guesses import guess_at
 from bpfrec.formats.held import File
 from bpfrec.formats.names import facts_path
 from bpfrec_tools.cli import printing
@@ -19,6 +20,8 @@ from bpfrec_tools.cli.ending import Refused as Refused
 from bpfrec_tools.cli.files import STREAM as STREAM
 from bpfrec_tools.cli.files import lock
 
+# What is said of an empty recording.
+NO_PACKET = "it is empty: there is no packet"
 # So many parts at most wait for a write.
 PARTS_A_WRITE = 256
 
@@ -127,6 +130,16 @@ def refuse_twice(paths: Iterable[str]) -> None:
             raise Refused(f"{path}: it is given twice" + (f", as {known[found]} too" if known[found] != path else ""))
         if found:
             known[found] = path
+
+
+def refuse_strange(paths: Iterable[str]) -> None:
+    """Refuses what is no recording, as a capture or a text is, and recordings of which none has a packet."""
+    given = list(paths)
+    for path, guess in ((it, guess_at(it)) for it in given):
+        if guess:
+            raise Refused(f"{path}: no recording{guess}")
+    if all(os.path.isfile(it) and not os.path.getsize(it) for it in given):
+        raise Refused(f"{given[0]}: {NO_PACKET}")
 
 
 def readable(path: str) -> File:

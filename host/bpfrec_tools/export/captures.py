@@ -27,6 +27,7 @@ from bpfrec_tools.cli.streams import (
     readable,
     refuse_inputs,
     refuse_overwriting,
+    refuse_strange,
     refuse_twice,
 )
 from bpfrec_tools.export.merging import Capture, Interface, Sliced, interfaces_of
@@ -152,6 +153,7 @@ def make(given: argparse.Namespace, line: Optional[str] = None) -> int:
     judge_inputs(given.recordings)
     inputs = [name for it in given.recordings for name in (it, facts_path(it))]
     judge_output(given.out, inputs, given.force)
+    refuse_strange(given.recordings)
     recordings = recordings_at(given)
     judge_times(recordings)
     judge_asked(recordings, given.channel or [])

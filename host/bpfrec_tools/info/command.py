@@ -14,11 +14,11 @@ from bpfrec.formats.names import all_of, facts_path
 from bpfrec_tools.cli import printing
 from bpfrec_tools.cli.arguments import Parser, name_of
 from bpfrec_tools.cli.program import Audit, audit_of
-from bpfrec_tools.cli.streams import STREAM, created, input_at
+from bpfrec_tools.cli.streams import NO_PACKET, STREAM, Taken, created, input_at
 from bpfrec_tools.info.as_json import object_of
 from bpfrec_tools.info.contents import MOST_PLACES, MOST_SECONDS, Recording, read
 from bpfrec_tools.info.facts_file import FactsFile, facts_beside
-from bpfrec_tools.info.page import page_parts
+from bpfrec_tools.info.page import BEGINNING, page_parts
 from bpfrec_tools.info.several import Part, text_of
 from bpfrec_tools.info.text import text_parts
 
@@ -80,6 +80,7 @@ def parser() -> Parser:
 def write_page(path: str, name: str, recording: Recording, audit: Audit, beside: Optional[FactsFile]) -> None:
     """Writes the page of a recording of this name; not in the place of the recording or of its facts."""
     judge_output(path, name)
+    judge_page(path)
     with created(path) as file:
         file.writelines(it.encode() for it in page_parts(os.path.basename(name), recording, audit, beside))
 
@@ -89,6 +90,16 @@ def judge_output(path: str, recording: str) -> None:
     for what, name in (("RECORDING", recording), ("RECORDING.json", facts_path(recording))):
         if input_at(path, [name]):
             raise OSError(0, f"it is {what} itself", path)
+
+
+def judge_page(path: str) -> None:
+    """Refuses a page in the place of a file that is none, as of another recording."""
+    if path == STREAM or not os.path.isfile(path):
+        return
+    with open(path, "rb") as file:
+        head = file.read(len(BEGINNING))
+    if head and head != BEGINNING.encode():
+        raise Taken(f"{path} is there, and is no page: give FILE another name")
 
 
 def is_other(recording: Recording) -> bool:
@@ -107,7 +118,7 @@ def part_at(path: str, is_quiet: bool) -> Optional[Part]:
         printing.err(f"{name_of('info')}: {path}: no recording{guess_at(path)}")
         return None
     if not recording.kinds and not recording.damages:
-        printing.err(f"{name_of('info')}: {path}: it is empty: there is no packet")
+        printing.err(f"{name_of('info')}: {path}: {NO_PACKET}")
     return Part(path, recording, audit, facts_beside(path))
 
 

@@ -46,6 +46,8 @@ pre { background: var(--box); padding: .6rem; margin: 0; overflow-x: auto; font-
   -webkit-print-color-adjust: exact; } pre { white-space: pre-wrap; } .filter, svg, tr { break-inside: avoid; }
   h2, h3 { break-after: avoid; } }
 """
+# What each page begins with.
+BEGINNING = "<!DOCTYPE html>"
 LEGEND = (
     "Bars are kept frames a second, red lines times of over a second without one, full lines marks, the dashed line is "
     "the end; below them the versions of the filter."
@@ -118,7 +120,7 @@ def page_parts(
     times = f" {times_text(beside)}" if beside else ""
     times += " Times of channels are UTC, by the time packets of the file." if recording.whole else ""
     yield (
-        "<!DOCTYPE html>\n<html lang=en><meta charset=utf-8>"
+        f"{BEGINNING}\n<html lang=en><meta charset=utf-8>"
         '<meta name=viewport content="width=device-width, initial-scale=1">'
         f"<title>{escaped(name)}</title><style>{STYLE}</style><h1>{escaped(name)}</h1>{whole}"
         f"<p>{escaped(span)} {escaped(LEGEND)}{escaped(times)}</p>"

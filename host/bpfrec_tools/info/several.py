@@ -11,10 +11,14 @@ from bpfrec_tools.info.contents import Channel, Recording
 from bpfrec_tools.info.facts_file import FactsFile, time_of
 from bpfrec_tools.info.names import name_of
 from bpfrec_tools.info.overview import remarks_of, time_text
+from bpfrec_tools.info.text import beside_rows
 
 CHANNEL_HEADS = ("channel", "frames", "offered", "dropped", "recordings")
 CHANNEL_WIDTHS = (7, 13, 13, 13, 10)
 TIME_WIDTH = 30
+# What facts say that is of interest over all recordings.
+LOST = "frames lost"
+EVENTS, NO_LOSS = ("mark", "interruption", LOST), (LOST, "none")
 
 
 class Part(NamedTuple):
@@ -80,6 +84,18 @@ def recording_lines(parts: list[Part]) -> Iterator[str]:
         yield f"{name:<{width}} {part.recording.bytes:>15,} {frames:>13,}  {part.audit}{remarks}"
 
 
+def event_lines(parts: list[Part]) -> Iterator[str]:
+    """The marks, the interruptions and the losses of all, by the facts."""
+    width = max(len(os.path.basename(it.path)) for it in parts)
+    beside = [(os.path.basename(it.path), it.beside) for it in parts if it.beside]
+    rows = [(name, *row) for name, found in beside for row in beside_rows(found) if row[0] in EVENTS]
+    for name, kind, value in rows:
+        if (kind, value) != NO_LOSS:
+            yield f"{name:<{width}}  {kind:<12}  {value}"
+    if beside and all((kind, value) == NO_LOSS for _, kind, value in rows if kind == LOST):
+        yield f"{LOST} none"
+
+
 def text_of(parts: list[Part]) -> Iterator[str]:
     """All of it, line by line."""
     for line in channel_lines(parts):
@@ -87,5 +103,8 @@ def text_of(parts: list[Part]) -> Iterator[str]:
     yield "\n"
     for line in recording_lines(parts):
         yield f"{line}\n"
+    yield "\n"
+    for line in event_lines(parts):
+        yield f"{line}\n"
     approved = sum(1 for it in parts if it.audit.is_yes())
-    yield f"\nrecordings {len(parts)}, approved by the audit {approved}\n"
+    yield f"recordings {len(parts)}, approved by the audit {approved}\n"

@@ -6,6 +6,7 @@ from itertools import chain
 from typing import BinaryIO, Callable, Iterable, Iterator, NoReturn, Optional, Union
 
 from bpfrec.formats.body import Frames
+from bpfrec.formats.guesses import guess_at
 from bpfrec.formats.packet import Damage, Packet
 from bpfrec.formats.reader import reader_of
 from bpfrec.formats.records import End
@@ -13,7 +14,7 @@ from bpfrec_tools.cli import printing
 from bpfrec_tools.cli.arguments import Parser, name_of
 from bpfrec_tools.cli.program import audit_of
 from bpfrec_tools.cli.progress import Progress, size_of
-from bpfrec_tools.cli.streams import STREAM, Refused, created, force, input_at, refuse_overwriting
+from bpfrec_tools.cli.streams import NO_PACKET, STREAM, Refused, created, force, input_at, refuse_overwriting
 
 ABOUT = """\
 What is left of a recording that was cut or damaged: all packets that are whole, as they are.
@@ -148,9 +149,7 @@ def up_to_packet(pieces: Iterator[Piece], path: str) -> list[Piece]:
         found.append(piece)
         if isinstance(piece, Packet):
             return found
-    if found:
-        raise Refused(f"{path}: no recording: no packet of it is whole")
-    return found
+    raise Refused(f"{path}: no recording{guess_at(path)}: no packet of it is whole" if found else f"{path}: {NO_PACKET}")
 
 
 def run(arguments: list[str]) -> int:

@@ -10,10 +10,12 @@ import sys
 from collections.abc import Iterable
 from typing import BinaryIO, Optional
 
-from bpfrec.formats.names import control_path
+from bpfrec.formats.names import all_of, control_path, names_of
 from bpfrec_tools.cli import printing
 from bpfrec_tools.cli.arguments import Parser, name_of
+from bpfrec_tools.cli.files import is_locked
 from bpfrec_tools.cli.moments import some_seconds
+from bpfrec_tools.live.control.words import LINES
 from bpfrec_tools.live.flight import flight_at, run_fault
 from bpfrec_tools.live.kept.names import Refusal
 
@@ -24,7 +26,7 @@ Sends lines to a run of bpfrec live, and waits for what each comes to:
   bpfrec tell flight.toml set "bus A" udp port 5004
   bpfrec tell /run/bpfrec/control next
 
-RUN is the name of the run, whose socket is flight.control beside flight.ch11; or the settings of the flight, by which
+RUN is the name of the run or of one of its recordings, whose socket is flight.control beside flight.ch11; or the settings of the flight, by which
 it is found; or the socket itself, as where `live --control PATH` or `control` in [run] names another.
 
 A LINE is one that bpfrec live takes on standard input: `set CHANNEL FILTER`, `mark TEXT`, `status`, `next`, `stop` or
@@ -63,12 +65,30 @@ def line_of(words: list[str]) -> str:
 def socket_of(name: str) -> str:
     """The socket of a run, by its path, its name or its settings."""
     is_settings = name.endswith(".toml")
-    beside = [control_path(name), control_path(f"{name}.ch11")]
+    # A recording stands for its run too.
+    beside = [control_path(name), control_path(f"{name}.ch11"), f"{names_of(name).stem}.control"]
     meant = sockets_in(name if is_settings else f"{name}.toml")
     found = next((it for it in (name, *beside, *meant) if is_socket(it)), None)
     if found is None:
-        raise Gone(f"nobody listens {f'at {[*meant, *beside][0]}' if is_settings else f'there, or at {beside[0]}'}")
+        where = f"at {[*meant, *beside][0]}" if is_settings else f"there, or at {beside[-1]}"
+        raise Gone(f"nobody listens {where}{ended_text(name)}")
     return found
+
+
+def ended_text(name: str) -> str:
+    """That a run has ended, by its last recording, which nobody writes; nothing where there is none."""
+    last = all_of(name)[-1]
+    is_ended = os.path.isfile(last) and not last.endswith(".toml") and not is_locked(last)
+    return f": the run has ended, and {last} is its last recording" if is_ended else ""
+
+
+def misplaced(given: argparse.Namespace) -> str:
+    """What is wrong with words of which a line's first stands ahead of RUN; nothing where none does."""
+    if given.run not in LINES or os.path.lexists(given.run):
+        return ""
+    run = next((it for it in given.words if it.endswith((".ch11", ".toml", ".control"))), "RUN")
+    rest = [given.run, *(it for it in given.words if it != run)]
+    return f"RUN comes first: {name_of('tell')} {' '.join([run, *rest])}"
 
 
 def sockets_in(settings: str) -> list[str]:
@@ -141,6 +161,9 @@ def run(arguments: list[str]) -> int:
     if given.words[:1] == ["set"] and "" in given.words[2:]:
         # As a variable of the shell is that isn't set: it must not open the channel.
         printing.err(f"{name_of('tell')}: FILTER is empty; all keeps all frames")
+        return USAGE
+    if misplaced(given):
+        printing.err(f"{name_of('tell')}: {misplaced(given)}")
         return USAGE
     if "\n" in words:
         printing.err(f"{name_of('tell')}: LINE has a line feed, and so it is more than one")

@@ -167,6 +167,13 @@ class Held:
         return set_line(self.change.channel, self.change.copy), self.change
 
 
+def in_order(line: bytes) -> str:
+    """A line whose word stands elsewhere than first, with that ahead; nothing where it has none."""
+    words = os.fsdecode(line).split()
+    found = next((it for it in words if it in LINES), None)
+    return f": did you mean {' '.join([found, *(it for it in words if it != found)])}?" if found else ""
+
+
 def set_line(channel: int, listing: Path) -> bytes:
     """The line that gives a channel the filter of a listing."""
     return b"set %d %s" % (channel, os.fsencode(listing))
@@ -196,12 +203,14 @@ class Changes:
         if words[0] in LINES and words[0] != "set":
             return f"{words[0]} stands alone"
         if words[0] != "set":
-            return f"no line {words[0]}, and help has all{nearest(words[0], LINES)}"
+            return f"no line {words[0]}, and help has all{in_order(line) or nearest(words[0], LINES)}"
         known = [str(it.table.get("id")) for it in self.folder.settings.channels]
         if len(words) < 3:
             return "it needs a channel and a filter, as set 7 udp port 5004"
         channel = os.fsdecode(found[1] or found[2]) if found else words[1]
-        return None if channel in known else f"no channel {channel}: {', '.join(known)}"
+        *others, last = os.fsdecode(line).split()[1:]
+        behind = f": the channel stands first, as set {last} {' '.join(others)}" if last in known else ""
+        return None if channel in known else f"no channel {channel}: {', '.join(known)}{behind}"
 
     def held(self, line: bytes, asker: Asker = None) -> Held:
         """A line as it waits for the recorder."""
