@@ -6,6 +6,7 @@ from pathlib import Path
 
 import bpfrec
 import pytest
+from bpfrec.formats.facts import LOST
 from bpfrec.formats.names import all_of
 from expected_facts import facts_of_run
 from several_recorders import recording_at
@@ -93,7 +94,45 @@ def test_check_has_one_answer_and_sees_what_is_missing(flight: Path) -> None:
     done = outcome(CHECK, flight)
     line = "before wrong: flight_00001.ch11, the facts say flight_00002.ch11\n"
     judge("one in the middle is missing", done.returncode == 1 and line in done.stdout, done)
-    judge("so the answer is no", done.stdout.endswith("\nno\n"), done)
+    judge("so the answer is no, with the recording and why", done.stdout.endswith(f"\nwrong {last}: {line}no\n"), done)
+    last.write_bytes(kept[:-30])
+    done = outcome(CHECK, flight)
+    found = [it for it in done.stdout.splitlines() if it.startswith("wrong ")]
+    judge("all that is wrong of it", len(found) == 1 and found[0].count("; ") == 4, found)
+    judge("the audit is last", found[0].endswith("; audit: read 1 Truncated 280"), found)
+
+
+def test_a_last_recording_that_is_missing_is_told_by_all(flight: Path, work: Path) -> None:
+    first, middle, last = parts_of(flight)
+    last.unlink()
+    line = f"bpfrec export: {middle}: next missing: flight_00003.ch11"
+    done = outcome(EXPORT, flight, work / "run.pcapng")
+    judge("a capture", (done.returncode, done.stderr) == (0, f"{line}\n"), done)
+    done = outcome(EXPORT, flight, work / "run.ch10")
+    gaps = f"{line}: --gaps makes a file without it\n"
+    judge("a whole file is refused", (done.returncode, done.stderr, (work / "run.ch10").exists()) == (1, gaps, False), done)
+    judge("but with --gaps", outcome(EXPORT, "--gaps", flight, work / "run.ch10").returncode == 0)
+    lines = run(INFO, flight).splitlines()
+    judge("info", any(it.startswith(middle.name) and it.endswith("next missing: flight_00003.ch11") for it in lines), lines)
+    judge("of files by their names nothing", outcome(EXPORT, first, middle, work / "two.pcapng").stderr == "")
+
+
+def test_info_has_the_marks_and_losses_of_all(flight: Path) -> None:
+    judge("none were lost", run(INFO, flight).splitlines()[-2] == "frames lost none")
+    first, middle, last = parts_of(flight)
+    path = Path(f"{middle}.json")
+    facts = json.loads(path.read_text())
+    facts["marks"] = [{"counter": 220, "text": "gear up"}]
+    facts["interruptions"] = [{"interface": "eth0", "why": "down", "from": 210, "to": 230}]
+    facts["losses"] = [{"interface": "eth0", "from": 200, "to": 250, **dict.fromkeys(LOST, 0), "dropped": 7}]
+    path.write_text(json.dumps(facts))
+    lines = run(INFO, flight).splitlines()
+    at = lines.index("") + 5
+    found = [it.split(maxsplit=1) for it in lines[at + 1 : -1]]
+    judge("each with its recording", [it[0] for it in found] == [middle.name] * 3, lines)
+    kinds = ("mark ", "interruption ", "frames lost ")
+    judge("mark, interruption, loss", all(it[1].startswith(kind) for it, kind in zip(found, kinds)), found)
+    judge("with what they say", "gear up" in found[0][1] and "eth0 down" in found[1][1] and "7 dropped" in found[2][1], found)
 
 
 def test_info_and_a_capture_say_which_is_missing_in_the_middle(flight: Path, work: Path) -> None:

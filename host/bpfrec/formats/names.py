@@ -4,7 +4,7 @@ from __future__ import annotations
 
 import os
 from glob import escape, glob
-from typing import Optional
+from typing import Iterable, Optional
 
 DIGITS = 5
 # What recordings end in, which may be left out of the name of a run.
@@ -70,6 +70,12 @@ def all_of(path: str) -> list[str]:
         if there := [found for _, found in numbered(*split(name))]:
             return there
     return [f"{path}{ENDING}"] if os.path.lexists(f"{path}{ENDING}") else [path]
+
+
+def last_of_runs(names: Iterable[str]) -> set[str]:
+    """The last recordings of the runs that are given by their names."""
+    runs = [(it, all_of(it)) for it in names]
+    return {run[-1] for name, run in runs if run != [name]}
 
 
 class Names:

@@ -13,7 +13,7 @@ from bpfrec.formats.names import facts_path
 from bpfrec.formats.whole_file import begins_whole_file
 from bpfrec_tools.chapter11.networks import networks_of
 from bpfrec_tools.chapter11.options import comment_of
-from bpfrec_tools.chapter11.runs import Recorded, judge_twice, missing_in, missing_text, runs_of
+from bpfrec_tools.chapter11.runs import Recorded, judge_twice, missing_behind, missing_in, missing_text, runs_of
 from bpfrec_tools.chapter11.setup import Asked, setup_text, told_by
 from bpfrec_tools.chapter11.several import renumbered, setup_of_several
 from bpfrec_tools.cli import printing, program
@@ -152,7 +152,8 @@ def make_of_one(given: argparse.Namespace) -> None:
 def make_of_several(given: argparse.Namespace) -> None:
     """Makes the file of several recordings, or prints SETUP with the new IDs ahead of it."""
     runs = runs_of(recorded_of(given))
-    asked, missing = asked_of(given), missing_text(missing_in(runs), given.gaps)
+    lacking = [*missing_in(runs), *missing_behind([it for run in runs for it in run], given.last)]
+    asked, missing = asked_of(given), missing_text(lacking, given.gaps)
     if missing:
         asked = asked._replace(attributes=(*asked.attributes, comment_of(missing)))
     lines, setup = renumbered(runs), setup_of_several(runs, asked)

@@ -4,7 +4,7 @@ missing there."""
 from __future__ import annotations
 
 import os
-from typing import Iterable, NamedTuple, Optional
+from typing import Container, Iterable, NamedTuple, Optional
 
 from bpfrec.core.recordings import Run, run_of
 from bpfrec.formats.facts import Facts
@@ -90,9 +90,16 @@ def missing_in(runs: list[list[Recorded]]) -> list[Missing]:
     return [missing_between(*pair) for pair in pairs if not pair[1].is_next_to(pair[0])]
 
 
-def missing_among(recordings: Iterable[tuple[str, Optional[Facts]]]) -> list[Missing]:
-    """What is missing between recordings at these paths, by their facts."""
-    return missing_in(runs_of([Recorded(path, facts, Networks()) for path, facts in recordings if facts]))
+def missing_among(recordings: Iterable[tuple[str, Optional[Facts]]], last: Container[str]) -> list[Missing]:
+    """What is missing between recordings at these paths, by their facts, and behind those that are the last of a run."""
+    found = [Recorded(path, facts, Networks()) for path, facts in recordings if facts]
+    return [*missing_in(runs_of(found)), *missing_behind(found, last)]
+
+
+def missing_behind(recordings: list[Recorded], last: Container[str]) -> list[Missing]:
+    """What is missing behind recordings that are the last of a run."""
+    ends = [it for it in recordings if it.path in last and it.facts.following]
+    return [Missing(it.path, cleaned(it.facts.following)) for it in ends]
 
 
 def missing_between(before: Recorded, after: Recorded) -> Missing:

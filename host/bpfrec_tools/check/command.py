@@ -10,7 +10,7 @@ import tempfile
 from typing import Optional
 
 from bpfrec.formats.guesses import guess_at
-from bpfrec.formats.names import all_of, facts_path
+from bpfrec.formats.names import all_of, facts_path, last_of_runs
 from bpfrec_tools.check.judge import Judge
 from bpfrec_tools.check.order import in_order
 from bpfrec_tools.check.verifier import verifier_of
@@ -53,10 +53,11 @@ and the counts, where <k> packets have no data checksum of 32 bits, or a seconda
   packets <n> data checksums <m> without <k> wrong <w>
 
 Of a file that begins with a setup record, which is a whole Chapter 11 file, setup record, time packets, order and index
-are checked too; a line `<at> <what>` says what is wrong. Of an empty file it prints `empty: there is no packet`, which is wrong
-without facts, and of a capture or a text `no recording (<what it is>)`.
+are checked too; a line `<at> <what>` says what is wrong. Of an empty file it prints `empty: there is no packet`,
+which is wrong without facts, and of a capture or a text `no recording (<what it is>)`.
 
-At last stands `audit: <answer>`, or `audit: not asked: <why>`, which is wrong.
+Then stands `audit: <answer>`, or `audit: not asked: <why>`, which is wrong. Of several FILES a line for each that is wrong
+stands ahead of the answer: `wrong <FILE>: <why>; ..`, with the first packet that is wrong.
 """
 MORE = """\
 With --signers the facts must be signed, as live --sign does it, by one of SIGNERS: a file of allowed signers, as
@@ -68,6 +69,10 @@ It runs bpfrec: what BPFREC names, or the one beside it.
 
 Status: 0 yes, 1 no, 2 the arguments are wrong, 3 a file can't be read or printed, 4 out of memory, 130 interrupted.
 """
+
+
+# What is said of a file whose sums can't be read.
+NO_SUMS = "sums none: it is no regular file"
 
 
 def parser() -> Parser:
@@ -86,35 +91,46 @@ def say(line: str) -> None:
     printing.out(f"{line}\n")
 
 
-def audit_is_right(path: str, is_quiet: bool) -> bool:
-    """Prints what the audit says of a file; whether that is a yes."""
-    audit = audit_of(path, is_quiet)
-    say(f"audit: {audit}")
-    return audit.is_yes()
-
-
-def is_right(path: str, judge: Optional[Judge], given: argparse.Namespace) -> bool:
-    """Judges a file, and the facts beside it where they are asked for; whether all is right."""
-    are_right = judge is None or judge.judge(path, path in given.last)
+def faults_of(path: str, judge: Optional[Judge], given: argparse.Namespace) -> list[str]:
+    """Judges a file, and the facts beside it where they are asked for: what is wrong."""
+    faults: list[str] = []
+    if judge and not judge.judge(path, path in given.last):
+        faults += judge.faults
     if judge and not stat.S_ISREG(os.stat(path).st_mode):
-        say("sums none: it is no regular file")
-        return False
+        say(NO_SUMS)
+        return [*faults, NO_SUMS]
     if guess_at(path):
         say(f"no recording{guess_at(path)}")
+    faults += sums_faults(path)
+    audit = None if given.no_audit else audit_of(path, given.quiet)
+    if audit is None:
+        return faults
+    say(f"audit: {audit}")
+    return faults if audit.is_yes() else [*faults, f"audit: {audit}"]
+
+
+def sums_faults(path: str) -> list[str]:
+    """The same of its sums, of which the first that is wrong stands for all."""
+    told: list[str] = []
+
+    def take(line: str) -> None:
+        say(line)
+        told.append(line)
+
     with open(path, "rb") as file:
-        are_right = check_sums(file, say) and are_right
+        are_right = check_sums(file, take)
     # By its facts a recording may be empty.
-    are_right = are_right and (os.path.getsize(path) > 0 or os.path.lexists(facts_path(path)))
-    return (given.no_audit or audit_is_right(path, given.quiet)) and are_right
+    is_right = are_right and (os.path.getsize(path) > 0 or os.path.lexists(facts_path(path)))
+    return [] if is_right else told[:1]
 
 
-def standard_input_is_right(given: argparse.Namespace) -> bool:
+def standard_input_faults(given: argparse.Namespace) -> list[str]:
     """The same of standard input, which is copied, since it is read more than once."""
     with tempfile.TemporaryFile() as copy:
         with open(0, "rb", closefd=False) as stream:
             shutil.copyfileobj(stream, copy)
         copy.flush()
-        return is_right(f"/proc/self/fd/{copy.fileno()}", None, given)
+        return faults_of(f"/proc/self/fd/{copy.fileno()}", None, given)
 
 
 def judge_of(given: argparse.Namespace) -> Optional[Judge]:
@@ -133,10 +149,8 @@ def arguments_of(arguments: list[str]) -> argparse.Namespace:
         made.error("standard input has no facts beside it")
     if given.identity is not None and given.signers is None:
         made.error("--identity needs --signers")
-    runs = [(it, in_order(all_of(it))) for it in given.files]
-    paths = [path for _, run in runs for path in run]
-    # The last recordings of the runs that are given by their names.
-    given.last = {run[-1] for name, run in runs if run != [name]}
+    paths = [path for it in given.files for path in in_order(all_of(it))]
+    given.last = last_of_runs(given.files)
     refuse_twice(it for it in paths if identity(it, 0))
     given.files = in_order(paths)
     return given
@@ -145,13 +159,15 @@ def arguments_of(arguments: list[str]) -> argparse.Namespace:
 def check_all(given: argparse.Namespace) -> bool:
     """Judges all files; whether all is right."""
     refuse_inputs(given.files, STREAM)
-    judge, are_right = judge_of(given), True
+    judge, wrong = judge_of(given), []
     for path in given.files:
         if len(given.files) > 1:
             say(f"recording {path}")
-        found = standard_input_is_right(given) if path == STREAM else is_right(path, judge, given)
-        are_right = found and are_right
-    return are_right
+        faults = standard_input_faults(given) if path == STREAM else faults_of(path, judge, given)
+        wrong += [f"wrong {path}: {'; '.join(faults)}"] if faults else []
+    for line in wrong if len(given.files) > 1 else ():
+        say(line)
+    return not wrong
 
 
 def run(arguments: list[str]) -> int:

@@ -57,31 +57,33 @@ class Judge:
     def __init__(self, verifier: Optional[Verifier], out: Callable[[str], object]) -> None:
         self.verifier, self.out = verifier, out
         self.chain = Chain()
-        self.is_right, self.is_last = True, False
+        # What is wrong of the recording that was judged last.
+        self.faults: list[str] = []
+        self.is_last = False
 
     def judge(self, path: str, is_last: bool = False) -> bool:
         """Prints what the facts beside a recording come to, which has to be the last one of its run or not; whether
         nothing of it is wrong."""
-        self.is_right, self.is_last = True, is_last
+        self.faults, self.is_last = [], is_last
         self.chain.move_to(place_of(path))
         content = content_of(path)
         if content is None:
             self.missing("hash none: it is no regular file")
-            return self.is_right
+            return not self.faults
         facts = self.facts_of(path)
         if facts is not None:
             self.judge_facts(path, facts, content)
         self.chain.current.append(Given(name_of(path), content.digest))
-        return self.is_right
+        return not self.faults
 
     def wrong(self, line: str) -> None:
         """Something is wrong."""
-        self.is_right = False
+        self.faults.append(line)
         self.out(line)
 
     def missing(self, line: str) -> None:
         """Something isn't there, which is wrong where signatures are asked for."""
-        self.is_right = self.is_right and self.verifier is None
+        self.faults += [line] if self.verifier else []
         self.out(line)
 
     def facts_of(self, path: str) -> Optional[bytes]:

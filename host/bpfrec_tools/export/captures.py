@@ -157,7 +157,7 @@ def make(given: argparse.Namespace, line: Optional[str] = None) -> int:
     recordings = recordings_at(given)
     judge_times(recordings)
     judge_asked(recordings, given.channel or [])
-    for missing in missing_among((it.path, it.facts) for it, _ in recordings):
+    for missing in missing_among(((it.path, it.facts) for it, _ in recordings), given.last):
         err(f"{missing.behind}: next missing: {missing.names}")
     interfaces = interfaces_of(recordings, given.channel)
     count = write(given.out, recordings, interfaces, given.quiet)

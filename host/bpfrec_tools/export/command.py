@@ -7,7 +7,7 @@ import os
 import re
 from typing import Callable, NamedTuple, Optional
 
-from bpfrec.formats.names import all_of
+from bpfrec.formats.names import all_of, last_of_runs
 from bpfrec_tools.chapter11 import command as chapter11
 from bpfrec_tools.chapter11.options import add_setup_options
 from bpfrec_tools.cli.arguments import Parser, channel_of, name_of
@@ -161,6 +161,7 @@ def arguments_of(arguments: list[str]) -> argparse.Namespace:
     paths = [*given.paths, *arguments[end + 1 :]]
     recordings, given.out = (paths, None) if given.print_setup else (paths[:-1], paths[-1] if paths else None)
     given.recordings = [found for it in recordings for found in all_of(it)]
+    given.last = last_of_runs(recordings)
     if not given.recordings:
         made.error(f"the following arguments are required: {'OUT' if paths else 'RECORDING, OUT'}")
     kind = kind_of(given)

@@ -93,9 +93,8 @@ def tell(line: str, is_all: bool) -> None:
 def write(given: argparse.Namespace, folder: str) -> int:
     """Writes OUT: the status."""
     recording, report = recorded(given, folder)
-    asked = argparse.Namespace(
-        recordings=[recording], out=given.out, since=None, until=None, channel=None, force=given.force, quiet=True
-    )
+    all_of_it = {"last": (), "since": None, "until": None, "channel": None}
+    asked = argparse.Namespace(recordings=[recording], out=given.out, force=given.force, quiet=True, **all_of_it)
     counts = REPORT.search(report)
     return pcapng.make(asked, f"kept {counts[2]} of {counts[1]}" if counts else None)
 

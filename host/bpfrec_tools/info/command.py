@@ -10,7 +10,7 @@ from typing import Any, Optional
 
 from bpfrec.formats.guesses import guess_at
 from bpfrec.formats.limits import MAX_VERSIONS
-from bpfrec.formats.names import all_of, facts_path
+from bpfrec.formats.names import all_of, facts_path, last_of_runs
 from bpfrec_tools.cli import printing
 from bpfrec_tools.cli.arguments import Parser, name_of
 from bpfrec_tools.cli.program import Audit, audit_of
@@ -140,7 +140,7 @@ def show(given: argparse.Namespace, parts: list[Part]) -> None:
     if given.json:
         printing.out_parts(chain(json.JSONEncoder(indent=2).iterencode(told_of(parts)), ["\n"]))
     elif others:
-        printing.out_parts(text_of(parts))
+        printing.out_parts(text_of(parts, last_of_runs(given.recordings)))
     elif not given.html:
         printing.out_parts(text_parts(recording, audit, beside))
     if given.html:

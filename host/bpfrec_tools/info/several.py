@@ -3,7 +3,7 @@
 from __future__ import annotations
 
 import os
-from typing import Iterator, NamedTuple, Optional
+from typing import Container, Iterator, NamedTuple, Optional
 
 from bpfrec_tools.chapter11.runs import missing_among
 from bpfrec_tools.cli.program import Audit
@@ -70,11 +70,11 @@ def channel_lines(parts: list[Part]) -> Iterator[str]:
         yield channel_line(number, having)
 
 
-def recording_lines(parts: list[Part]) -> Iterator[str]:
+def recording_lines(parts: list[Part], last: Container[str]) -> Iterator[str]:
     """A line for each recording: its bytes, its frames, what the audit says, and what is to be seen at once, as what is
     missing behind it."""
     width = max(len("recording"), *(len(os.path.basename(it.path)) for it in parts))
-    missing = missing_among((it.path, it.beside and it.beside.known) for it in parts)
+    missing = missing_among(((it.path, it.beside and it.beside.known) for it in parts), last)
     yield f"{'recording':<{width}} {'bytes':>15} {'frames':>13}  audit"
     for part in parts:
         frames = sum(it.frames for it in part.recording.channels.values())
@@ -96,12 +96,12 @@ def event_lines(parts: list[Part]) -> Iterator[str]:
         yield f"{LOST} none"
 
 
-def text_of(parts: list[Part]) -> Iterator[str]:
+def text_of(parts: list[Part], last: Container[str] = ()) -> Iterator[str]:
     """All of it, line by line."""
     for line in channel_lines(parts):
         yield f"{line}\n"
     yield "\n"
-    for line in recording_lines(parts):
+    for line in recording_lines(parts, last):
         yield f"{line}\n"
     yield "\n"
     for line in event_lines(parts):
