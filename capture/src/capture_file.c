@@ -45,9 +45,11 @@ static const char *link_type_name(uint16_t number) {
 
 bool judge_interface(struct capture_file *file, uint32_t number) {
     const struct file_interface *interface = &file->interfaces[number];
+    bool has_others = file->count > 1 && file->chosen == EVERY_INTERFACE;
     if (interface->link_type != LINK_TYPE_ETHERNET)
-        return refuse(&file->input, "link type %u (%s) of interface %" PRIu32 ", where Ethernet is 1",
-                      interface->link_type, link_type_name(interface->link_type), number);
+        return refuse(&file->input, "link type %u (%s) of interface %" PRIu32 ", where Ethernet is 1%s",
+                      interface->link_type, link_type_name(interface->link_type), number,
+                      has_others ? ": capture --interface N takes another one alone" : "");
     if (interface->units_per_second == 0)
         return refuse(&file->input, "time resolution %u of interface %" PRIu32, interface->resolution, number);
     return true;

@@ -13,6 +13,7 @@ from c_units import Script
 FRAME = bytes(range(60))
 SECTION, INTERFACE, OLD_PACKET, SIMPLE_PACKET, PACKET, UNKNOWN = 0x0A0D0D0A, 1, 2, 3, 6, 0x0BAD
 END_OF_OPTIONS, FLAGS, NAME, RESOLUTION, FCS_LEN, OFFSET = 0, 2, 2, 9, 13, 14
+ANOTHER = ": capture --interface N takes another one alone"
 MOST_BLOCK, MOST_CAPTURED, MOST_INTERFACES = 1 << 24, 262_144, 65_536
 UNITS = {it: 10**it for it in (0, 1, 3, 6, 7, 9, 12, 18, 19)}
 UNITS |= {0x80 | it: 2**it for it in (0, 1, 10, 20, 32, 62, 63)}
@@ -190,7 +191,7 @@ def test_of_a_chosen_interface_the_frames_of_each_section_are_read_and_no_others
 def test_a_link_type_other_than_ethernet_is_refused_with_its_first_frame(file: Unit) -> None:
     for link, name in [(0, "NULL"), (2, "unknown"), (113, "LINUX_SLL"), (65_535, "unknown")]:
         found = file.read(file.plain, file.interface(link=link), file.packet(1, 1, FRAME))
-        assert found == Read([], f"link type {link} ({name}) of interface 1, where Ethernet is 1")
+        assert found == Read([], f"link type {link} ({name}) of interface 1, where Ethernet is 1{ANOTHER}")
     assert file.read(file.interface(link=113)) == Read([], "")
 
 

@@ -31,7 +31,7 @@ from bpfrec_tools.cli.streams import (
     refuse_twice,
 )
 from bpfrec_tools.export.merging import Capture, Interface, Sliced, interfaces_of
-from bpfrec_tools.export.times import dated, ranges_of
+from bpfrec_tools.export.times import NOTHING_BETWEEN, dated, ranges_of, refuse_outside
 
 # Why a name names no channel.
 NO_NAMES = "no facts beside it, so --channel takes numbers, as 1"
@@ -84,10 +84,12 @@ def recordings_at(given: argparse.Namespace) -> list[Sliced]:
     opened = [Recording(it, times_of(it)) for it in indexes]
     since, until = dated(given.since, given.until, opened)
     if since and until and since.is_absolute == until.is_absolute and until <= since:
-        raise Refused("--to isn't after --from, so no frame lies between them")
+        raise Refused(NOTHING_BETWEEN)
     found = [(it, ranges_of(it, since, until)) for it in opened]
     for index in indexes:
         index.read()
+    if since or until:
+        refuse_outside(found)
     return found
 
 

@@ -9,6 +9,7 @@ from typing import NamedTuple, Optional, Union
 from bpfrec.core.recordings import Recording
 from bpfrec.core.times import Time
 from bpfrec.formats.body import Range
+from bpfrec.formats.facts import tick_of
 from bpfrec.formats.limits import NANOSECONDS_A_SECOND, NANOSECONDS_A_TICK
 from bpfrec.formats.pcapng_blocks import MOST_UNITS
 from bpfrec_tools.cli.moments import first_from, moment_of, time_of_day
@@ -24,6 +25,9 @@ class TimeOfDay(NamedTuple):
     """A time of the command line that has no date, in nanoseconds since midnight UTC."""
 
     nanoseconds: int
+
+
+NOTHING_BETWEEN = "--to isn't after --from, so no frame lies between them"
 
 
 # What may stand for a time on the command line.
@@ -91,7 +95,46 @@ def dated(since: Asked, until: Asked, recordings: list[Recording]) -> tuple[Opti
     least = beginning_of(first) if begin is None else begin.nanoseconds
     if begin is not None and not begin.is_absolute:
         least += first.times.origins[-1].moment
+    if begin is not None:
+        refuse_swapped(since, until, begin, recordings)
     return begin, on_day(until, max(least, beginning_of(first)))
+
+
+def refuse_swapped(since: Asked, until: Asked, begin: Time, recordings: list[Recording]) -> None:
+    """Refuses times of day of which the second is ahead of the first, where all frames are of the day of the first."""
+    are_turned = isinstance(since, TimeOfDay) and isinstance(until, TimeOfDay) and until <= since
+    spans = [(it, found) for it in recordings if are_turned and (found := counters_of(it))]
+    if spans and max(moment_in(it, found.high) for it, found in spans) < first_from(0, begin.nanoseconds):
+        raise Refused(NOTHING_BETWEEN)
+
+
+def counters_of(recording: Recording) -> Optional[Range]:
+    """The first and the last counter of a recording, whose headers are read for it, and the last packet of each
+    channel; None where it has no frames."""
+    index = recording.index
+    index.read()
+    bodies = [index.body(it.packets[-1]) for it in index.channels.values() if it.packets]
+    last = [max(frames.counters) for frames, _ in filter(None, bodies) if frames.counters]
+    first = min((it.first for it in index.places), default=0)
+    return Range(first, max(last)) if last else None
+
+
+def refuse_outside(recordings: list[tuple[Recording, list[Range]]]) -> None:
+    """Refuses a slice that lies ahead of all frames or behind them, with the time that they have."""
+    for recording, ranges in recordings:
+        if any(low <= it.first < high for it in recording.index.places for low, high in ranges):
+            return
+    spans = [(it, found, ranges) for it, ranges in recordings if (found := counters_of(it))]
+    if any(low <= found.high and found.low < high for _, found, ranges in spans for low, high in ranges):
+        return
+    ends = [(moment_in(it, counter), it) for it, found, _ in spans for counter in found]
+    first, last = (text_of_end(*found(ends, key=lambda end: end[0])) for found in (min, max)) if ends else ("-", "-")
+    raise Refused(f"no frame lies there: the recordings have frames from {first} to {last}")
+
+
+def text_of_end(moment: int, recording: Recording) -> str:
+    """The moment of a frame, as UTC or in seconds since counter 0."""
+    return tick_of(moment) if recording.facts else f"{moment // NANOSECONDS_A_SECOND}.{moment % NANOSECONDS_A_SECOND:09d} s"
 
 
 def on_day(time: Asked, least: int) -> Optional[Time]:
