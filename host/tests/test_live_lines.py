@@ -11,6 +11,7 @@ import pytest
 from bpfrec_tools.live.control.changes import Changes, Pipe
 from bpfrec_tools.live.control.lines import MOST_HELD, MOST_MADE, ControlLines, ControlPorts
 from bpfrec_tools.live.control.made_filters import MadeFilter
+from bpfrec_tools.live.control.words import HELP
 from bpfrec_tools.live.operands import Route
 from bpfrec_tools.live.status import Terminal
 from support import judge, present
@@ -99,6 +100,19 @@ def test_a_fault_in_what_takes_a_line_is_said_and_ends_nothing(lines: Lines) -> 
     lines.come(b"status\nmark a\n")
     lines.turn()
     judge("on", lines.said[2:] == ["bpfrec live: status: ZeroDivisionError: a fault of ours", "mark a"], lines.said)
+
+
+def test_words_are_obeyed_while_nothing_is_recorded(lines: Lines) -> None:
+    """Also behind a change of a filter, which the next recording has."""
+    lines.recorder.recording.has_failed = True
+    lines.come(b"set 1 arp\nhelp\nstop\n")
+    lines.turn()
+    judge("help and stop", lines.said[3:] == [*HELP.split("\n"), "stop"], lines.said)
+    judge("the change waits", [it.line for it in lines.control.held] == [b"set 1 arp"])
+    answers: list[tuple[str, bool]] = []
+    lines.control.take_line(b"set 2 arp", lambda text, is_done: answers.append((text, is_done)))
+    why = "bpfrec live: set 2 arp: nothing is recorded, and the next recording hasn't begun"
+    judge("one by the socket is refused", answers == [(why, False)] and len(lines.control.held) == 1, answers)
 
 
 REASONS = {

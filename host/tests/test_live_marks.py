@@ -64,7 +64,7 @@ class World:
     def recording(self, number: int, has_facts: bool = True) -> Any:
         folder = self.work / str(number)
         folder.mkdir()
-        about = SimpleNamespace(number=number, out=f"f_{number}")
+        about = SimpleNamespace(number=number, out=f"f_{number}", has_failed=False)
         keeper = object() if has_facts else None
         return SimpleNamespace(recording=about, about=about, folder=folder, keeper=keeper, is_created=True)
 

@@ -23,7 +23,7 @@ from recordings import (
     recordings,
     settings_of,
 )
-from support import BPFREC, MEBIBYTE, SECOND, SECONDS, Running, judge, judge_quietly, outcome, present, run, wait_for
+from support import BPFREC, MEBIBYTE, SECOND, SECONDS, TOOLS, Running, judge, judge_quietly, outcome, present, run, wait_for
 
 pytestmark = [
     pytest.mark.wanted("bin/bpfrec", "bin/capture", "ip", "mkfs.ext4", "mount"),
@@ -131,6 +131,34 @@ def test_recordings_go_on_once_there_is_room(work: Path, name: str, words: list)
     """Recordings that follow one another go on once there is room."""
     with memory_disk(work / "full") as disk:
         judge_going_on(work, disk, name, words)
+
+
+def test_a_run_on_a_full_disk_takes_lines_and_has_an_alarm(work: Path) -> None:
+    """Each line is answered, and `stop` ends the run."""
+    noted = work / "alarms"
+    script = work / "note"
+    script.write_text(f'#!/bin/sh\necho "$1 $2" >> {noted}\n')
+    script.chmod(0o755)
+    with memory_disk(work / "full") as disk:
+        out = disk / "told.ch11"
+        running = begin(work, out, "--quiet", "--every", "1h", "--on-alarm", script)
+        fill_disk(disk, running, "begins once there is room")
+        wait_for("an alarm", lambda: noted.exists() and "begins waiting\n" in noted.read_text(), 10)
+        answers = {line: outcome(TOOLS / "tell", "--wait", 5, out, line) for line in LINES_ON_A_FULL_DISK}
+        for line, (status, told) in LINES_ON_A_FULL_DISK.items():
+            done = answers[line]
+            judge(line, done.returncode == status and told in done.stdout + done.stderr, done)
+        running.ended()
+        judge("the run has ended", nothing_left(work), running.told())
+
+
+LINES_ON_A_FULL_DISK = {
+    "status": (0, "NOT RECORDING"),
+    "mark gear up": (0, "mark gear up waits for the next recording"),
+    "set 1 arp": (1, "nothing is recorded, and the next recording hasn't begun"),
+    "next": (1, "nothing is recorded, and the next recording hasn't begun"),
+    "stop": (0, "the recording ends"),
+}
 
 
 def judge_going_on(work: Path, disk: Path, name: str, words: list) -> None:

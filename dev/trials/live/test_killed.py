@@ -140,12 +140,23 @@ def test_interfaces_wait_for_a_live_that_is_slow_and_that_is_said(work: Path) ->
     judge("and so do the facts", [(it["why"], it["to"] is None) for it in noted] == [("unread", False)] * 2, noted)
 
 
-def test_a_recording_that_none_follows_ends_with_its_recorder(work: Path) -> None:
-    out = work / "kill.ch11"
-    running: Running = begin(work, out, "--quiet")
-    kill_recorder(out, out)
+@pytest.mark.parametrize("words", [[], ["--every", 1_000]], ids=["one", "every"])
+def test_a_killed_recorder_is_an_alarm(work: Path, words: list) -> None:
+    """A recording that none follows ends with it."""
+    out, noted = work / "kill.ch11", work / "alarms"
+    script = work / "note"
+    script.write_text(f'#!/bin/sh\necho "$1 $2 $4" >> {noted}\n')
+    script.chmod(0o755)
+    running: Running = begin(work, out, "--quiet", "--on-alarm", script, *words)
+    first = work / "kill_00001.ch11" if words else out
+    kill_recorder(out, first)
+    line = f"begins killed the recorder of {first.name} was ended by signal 9\n"
+    wait_for("the alarm begins", lambda: noted.exists() and line in noted.read_text(), 10)
+    if words:
+        running.interrupt()
     status, told = running.ended()[0], running.told()
-    judge("it ends", status == 128 + signal.SIGKILL and "the next recording begins" not in told, told)
+    follows = "the next recording begins" in told
+    judge("it ends", status == 128 + signal.SIGKILL and follows == bool(words), told)
 
 
 @pytest.mark.parametrize("words", [[], ["--every", 1_000]], ids=["one", "every"])

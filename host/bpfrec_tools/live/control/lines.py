@@ -28,6 +28,8 @@ LAST_VERSION = MAX_VERSIONS - 1 - MOST_UNANSWERED
 MOST_HELD = 16
 # So many filters are made at once at most, each by a program.
 MOST_MADE = 4
+# What is said of a line while OUT has failed, and the next recording hasn't begun.
+NOTHING_RECORDED = "nothing is recorded, and the next recording hasn't begun"
 # So many seconds lines are taken in a turn of the loop: then signals and all else come.
 TURN_TIME = 0.01
 
@@ -162,8 +164,24 @@ class ControlLines(Part):
             return
         while self.held and self.held[0].is_ready() and not self.waits(recorder):
             self.hand(self.held.popleft(), recorder)
+        if self.is_without(recorder):
+            self.pass_by(recorder)
         recorder.lines.is_ending = recorder.lines.is_ending or not self.is_open()
         self.push(recorder)
+
+    def is_without(self, recorder: Recorder) -> bool:
+        """Whether nothing is recorded until a next recording begins, which may last."""
+        return recorder.recording.has_failed or recorder.recording.was_killed
+
+    def pass_by(self, recorder: Recorder) -> None:
+        """Obeys the words that wait behind changes of filters. A change by the socket is refused, for whose answer
+        somebody waits; one that was typed is of the next recording."""
+        held, self.held = list(self.held), deque()
+        for line in held:
+            if line.word or line.change.asker:
+                self.hand(line, recorder)
+            else:
+                self.held.append(line)
 
     def push(self, recorder: Recorder) -> None:
         """Hands on the lines that wait, and the rest once the recorder takes more."""
@@ -191,7 +209,9 @@ class ControlLines(Part):
         """Does what a line says, or hands it on; a filter that isn't made yet comes too late."""
         too_late = said(f"{os.fsdecode(held.line)}: the recording takes no more lines")
         fault, asker = held.fault() if held.is_ready() else too_late, held.change.asker
-        if fault:
+        if asker and not held.word and self.is_without(recorder):
+            self.say(asker, said(f"{os.fsdecode(held.line)}: {NOTHING_RECORDED}"), False)
+        elif fault:
             self.say(asker, fault, False)
         elif held.word is Word.HELP:
             self.say(asker, HELP, True)
@@ -209,6 +229,8 @@ class ControlLines(Part):
             self.ports.stop()
         elif word is Word.STATUS:
             self.say(asker, "\n".join(self.ports.report()), True)
+        elif self.given.is_rotating() and self.is_without(self.current()):
+            self.say(asker, said(f"next: {NOTHING_RECORDED}"), False)
         elif self.given.is_rotating():
             answer(asker, "the next recording begins", True)
             self.ports.next()

@@ -39,6 +39,8 @@ class Marks(Part):
         # The recording that goes on, those that wait for the next one, and those of each by its number.
         self.current: Optional[Recorder] = None
         self.waiting: deque[Typed] = deque()
+        # Whether the last recording failed, so that the next one may begin much later.
+        self.has_failed = False
         self.all: dict[int, list[Typed]] = {}
 
     def begin_clock(self) -> None:
@@ -59,6 +61,9 @@ class Marks(Part):
         if fault:
             self.refuse(asker, said(f"mark: {fault}"))
             return
+        if self.has_failed and not self.current:
+            answer(asker, f"mark {text} waits for the next recording", True)
+            asker = None
         self.waiting.append(Typed(steady, moment, text, asker))
         self.note_all()
 
@@ -72,7 +77,7 @@ class Marks(Part):
     def ended(self, recorder: Recorder) -> None:
         """A recorder has ended."""
         if self.current is recorder:
-            self.current = None
+            self.current, self.has_failed = None, recorder.recording.has_failed
 
     def concluded(self, recorder: Recorder, _: int) -> None:
         """All is known of a recording. The marks of one that has gone, since nothing was in it, are the next one's."""

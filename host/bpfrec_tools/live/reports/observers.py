@@ -100,6 +100,11 @@ class Observers(Part):
         if self.observer:
             self.observer.clock_seen(state, most)
 
+    def stopped(self, recorder: Recorder, killed_by: Optional[int]) -> None:
+        """A recorder has ended since its output failed, or was ended by this signal."""
+        if self.observer:
+            self.observer.recorder_stopped(recorder.recording.number, recorder.about.out, killed_by)
+
     def concluded(self, recorder: Recorder, status: int) -> None:
         """A recording has ended, and its audit too."""
         report, audit = recorder.text("report").splitlines(), recorder.text("audit").splitlines()

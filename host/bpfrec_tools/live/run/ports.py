@@ -158,6 +158,9 @@ class Observer(Protocol):
     ) -> None:
         """A recorder has ended, with this status and these lines, and so has the audit of what it recorded."""
 
+    def recorder_stopped(self, number: int, path: str, killed_by: Optional[int]) -> None:
+        """A recorder takes no more frames, since its output failed, or this signal ended it."""
+
     def tick(self, now: float) -> None:
         """A second has gone by."""
 

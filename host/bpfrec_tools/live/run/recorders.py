@@ -10,7 +10,7 @@ from bpfrec_tools.live.control.changes import Change
 from bpfrec_tools.live.control.lines import LAST_VERSION
 from bpfrec_tools.live.kept.durability import UNFORCED
 from bpfrec_tools.live.kept.names import is_special
-from bpfrec_tools.live.model import Recording
+from bpfrec_tools.live.model import KILLED, Recording
 from bpfrec_tools.live.parts.guard import open_and_close
 from bpfrec_tools.live.parts.recorder import Recorder
 from bpfrec_tools.live.said import said
@@ -97,6 +97,9 @@ class Recorders:
         self.run.loop.on_read(recorder.answers, None)
         for part in self.run.parts:
             part.ended(recorder)
+        has_failed = recorder.recording.has_failed
+        if has_failed or status > KILLED:
+            self.run.observers.stopped(recorder, None if has_failed else status - KILLED)
         self.run.machine.recorder_ended(recorder.recording, status, time.monotonic())
 
     def audit(self, recording: Recording) -> bool:

@@ -56,6 +56,7 @@ class Name(str, Enum):
     DISK = "disk"
     GROUND = "ground"
     KEEPS_NOTHING = "keeps_nothing"
+    KILLED = "killed"
     LOST = "lost"
     NO_COUNTS = "no_counts"
     SILENT = "silent"
@@ -108,6 +109,8 @@ def of_whole(view: View) -> Iterator[Alarm]:
         yield Alarm(Name.UNSIGNED, ALARM, None, "not signed", view.unsigned)
     if view.unhashed:
         yield Alarm(Name.UNHASHED, ALARM, None, "not hashed", view.unhashed)
+    if view.killed:
+        yield Alarm(Name.KILLED, ALARM, None, "recorder killed", view.killed)
     if view.recording and view.recording.fault:
         text = f"{view.recording.name}: {view.recording.fault}: the recording's file isn't what the recorder writes"
         yield Alarm(Name.DAMAGED, ALARM, None, "damaged", text)
@@ -120,7 +123,7 @@ def of_whole(view: View) -> Iterator[Alarm]:
             f"the audit of {plural(view.audits.no, 'recording')} said no{''.join(f', last of {it}' for it in refused)}"
         )
         yield Alarm(Name.AUDIT, ALARM, None, "audit: no", text)
-    if view.state == State.WAITING and view.recordings and not view.is_ending:
+    if view.state == State.WAITING and (view.recordings or view.recording) and not view.is_ending:
         yield Alarm(Name.WAITING, ALARM, None, "not recording", "nothing is recorded: the next recording hasn't begun")
 
 
@@ -141,7 +144,7 @@ def of_sync(view: View) -> Iterator[Alarm]:
     if view.sync.faults:
         text = f"{view.sync.fault}: what the disk has of it may have gaps"
         yield Alarm(Name.SYNC_FAULT, ALARM, None, "disk fails", text)
-    if not view.recording or not view.sync.interval:
+    if not view.recording or not view.sync.interval or view.state != State.RECORDING:
         return
     age = view.recording.seconds if view.sync.age is None else view.sync.age
     if age > view.sync.interval + SYNC_SECONDS:

@@ -88,7 +88,9 @@ class Model:
         # How many recordings couldn't be forced to their disk, and what is said of the last.
         self.sync_faults, self.sync_fault = 0, ""
         # What is said of the last facts that couldn't be signed, and of the last recording without a hash.
-        self.unsigned = self.unhashed = ""
+        self.unsigned = self.unhashed = self.killed = ""
+        # Whether the recorder of the recording that goes on takes no more frames.
+        self.has_stopped = False
         self.channels: dict[int, Channel] = {}
         self.going: dict[int, Going] = {}
         self.current: Optional[int] = None
@@ -112,7 +114,7 @@ class Model:
     def recording_begun(self, number: int, name: str, channels: Iterable[Setup], now: float) -> None:
         """A recording begins, of these channels."""
         self.going[number] = Going(number, name, now)
-        self.current = number
+        self.current, self.has_stopped = number, False
         self.synced_at = None
         kept = {}
         for setup in channels:
@@ -203,6 +205,12 @@ class Model:
         else:
             self.audits = Audits(yes, no + 1, none) if ended.is_refused() else Audits(yes + 1, no, none)
 
+    def recorder_stopped(self, number: int, name: str, killed_by: Optional[int]) -> None:
+        """A recorder takes no more frames, since its output failed, or this signal ended it."""
+        self.has_stopped = self.has_stopped or number == self.current
+        if killed_by is not None:
+            self.killed = f"the recorder of {name} was ended by signal {killed_by}"
+
     def ended(self) -> None:
         """The run has ended."""
         self.is_ended, self.current = True, None
@@ -229,7 +237,7 @@ class Model:
         """Whether a recording goes on."""
         if self.is_ended:
             return State.ENDED
-        return State.WAITING if self.current is None else State.RECORDING
+        return State.WAITING if self.current is None or self.has_stopped else State.RECORDING
 
     def view(self, now: float) -> View:
         """The run at this moment."""
@@ -251,6 +259,7 @@ class Model:
             is_ending=self.is_ending,
             unsigned=self.unsigned,
             unhashed=self.unhashed,
+            killed=self.killed,
             ground=tuple(it.view(now) for it in self.ground.values()),
         )
 

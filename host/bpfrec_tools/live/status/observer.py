@@ -128,6 +128,10 @@ class Status(Observer):
             growth.close()
         self.model.recording_ended(number, status, report, audit)
 
+    def recorder_stopped(self, number: int, path: str, killed_by: Optional[int]) -> None:
+        """A recorder takes no more frames, since its output failed, or this signal ended it."""
+        self.model.recorder_stopped(number, os.path.basename(path), killed_by)
+
     def tick(self, now: float) -> None:
         """Once a second: reads on in what grows, looks at the disk, and tells how it goes."""
         for number, growth in self.growths.items():

@@ -184,7 +184,8 @@ class View(NamedTuple):
     """A run at the moment `now`. It is `waiting` where no recording goes on; `uptime` is
     how long it has gone on, and `recordings` are the last that ended. `marks` are the last of the run; `host` is the
     name of the host, and `utc` the moment by its clock, in seconds since 1970. `is_ending` says that no other recording
-    will begin, and `unsigned` and `unhashed` what is said of the last recording that has no signature or no hash."""
+    will begin; `unsigned`, `unhashed` and `killed` what is said of the last recording that has no signature or no hash, or
+    whose recorder was killed."""
 
     now: float
     state: State
@@ -202,6 +203,7 @@ class View(NamedTuple):
     is_ending: bool = False
     unsigned: str = ""
     unhashed: str = ""
+    killed: str = ""
     ground: tuple[GroundView, ...] = ()
 
 
