@@ -4,6 +4,8 @@ terminals that are closed."""
 import fcntl
 import os
 import pty
+import select
+import struct
 import termios
 import time
 from pathlib import Path
@@ -23,6 +25,7 @@ from recordings import (
     processes_of,
     settings_of,
 )
+from screen import Screen
 from support import BPFREC, CAPTURE, LIVE, Running, fill_pipe, judge, judge_quietly, wait_for
 from terminal import Terminal
 
@@ -69,6 +72,48 @@ def test_ctrl_z_stops_live_alone_and_ctrl_c_ends_it_well(work: Path) -> None:
     judge("all frames are recorded", numbers(extracted(work, out, 1)) == list(range(300)))
     found = numbers(extracted(work, out, 2))
     judge("and of the other channel those before its filter changed", found == list(range(100)), found)
+
+
+def test_lines_that_are_pasted_at_once_keep_their_answers(work: Path) -> None:
+    """Each once and in order, above the table, which stands below them."""
+    out = work / "pasted.ch11"
+    master, slave = pty.openpty()
+    fcntl.ioctl(slave, termios.TIOCSWINSZ, struct.pack("HHHH", 40, 100, 0, 0))
+    streams = dict.fromkeys(("stdin", "stdout", "stderr"), slave)
+    adds = {RUN: str(out), "TERM": "xterm"}
+    takes = lambda: fcntl.ioctl(0, termios.TIOCSCTTY, 0)
+    running = Running(work, LIVE, settings_of(work), out, "rx0=1", "rx1=2", adds=adds, preexec_fn=takes, **streams)
+    os.close(slave)
+    seen = Seen(master)
+    wait_for(lambda: f"the table is there: {seen.text()}", lambda: "RECORDING" in seen.text(), 10)
+    for count in (3, 6):
+        os.write(master, b"mark a\nmark b\nmark c\n")
+        wait_for(lambda: f"three more: {seen.text()}", lambda count=count: seen.text().count("marked ") == count, 10)
+        time.sleep(1.5)
+    os.write(master, CTRL_C)
+    wait_for(lambda: f"the audit: {seen.text()}", lambda: YES in seen.text(), 20)
+    shown = seen.text()
+    os.close(master)
+    running.process.wait(20)
+    counters = [str(it["counter"]) for it in facts_of(out)["marks"]]
+    answers = [it.split()[1] for it in shown.splitlines() if it.startswith("marked ")]
+    judge("each is answered once, in order", len(counters) == 6 and answers == counters, shown)
+    judge("no part of a table is left above", shown.count("RECORDING") <= 1, shown)
+
+
+class Seen:
+    """A screen that has what comes from a terminal."""
+
+    def __init__(self, master: int) -> None:
+        self.master, self.screen = master, Screen(100, 40)
+
+    def text(self) -> str:
+        while select.select([self.master], [], [], 0)[0]:
+            try:
+                self.screen.write(os.read(self.master, 1 << 16).decode())
+            except OSError:
+                break
+        return self.screen.text()
 
 
 @pytest.mark.parametrize("words", [["--quiet"], []], ids=["plain", "table"])
