@@ -228,11 +228,16 @@ static size_t distance(const char *word, const char *other) {
 
 /* The option that a word of two dashes means; NULL where none is like it. */
 static const char *option_like(const char *word) {
-    const char *name = word + MOST_DASHES, *nearest = OPTIONS[0].name;
-    for (const struct option *at = OPTIONS; at->name != NULL; at++)
-        if (distance(name, at->name) < distance(name, nearest))
+    const char *name = word + MOST_DASHES, *nearest = NULL;
+    size_t least = MOST_SLIPS + 1;
+    for (const struct option *at = OPTIONS; at->name != NULL; at++) {
+        size_t slips = distance(name, at->name);
+        if (slips < least) {
+            least = slips;
             nearest = at->name;
-    return distance(name, nearest) <= MOST_SLIPS ? nearest : NULL;
+        }
+    }
+    return nearest;
 }
 
 /* Says what is wrong with an option, by what getopt says of it and its word: the status. */

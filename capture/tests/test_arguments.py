@@ -193,7 +193,9 @@ def test_an_unknown_option_names_the_one_that_is_meant(arguments: Arguments) -> 
         f"--{'x' * 4_000}": None,
     }.items():
         told = arguments.refusal("eth0=pipe", given)
-        assert told == (f"no such option: {given}: did you mean {meant}?\n" if meant else f"no such option: {given}{HINT}")
+        assert told == (
+            f"no such option: {given}: did you mean {meant}?\n" if meant else f"no such option: {given}{HINT}"
+        )
 
 
 def test_help_with_each_option_and_the_version_are_printed_whatever_else_is_there(arguments: Arguments) -> None:

@@ -253,7 +253,11 @@ def ended(views: Iterable[View]) -> Iterable[View]:
 
 def test_an_ended_run_keeps_its_losses_and_no_other_alarm() -> None:
     """What has ended is silent, and needs no disk; what was lost stays."""
-    past = [case for case in CASES if CASES[case][2] not in ("lost", "was_lost", "audit", "killed", "sync_fault", "unsigned")]
+    past = [
+        case
+        for case in CASES
+        if CASES[case][2] not in ("lost", "was_lost", "audit", "killed", "sync_fault", "unsigned")
+    ]
     told = {case: names(view) for case, view in zip(past, ended(CASES[it][1] for it in past)) if names(view)}
     judge("a run that has ended has none of its channels", not told, told)
     lost = VIEW._replace(state=State.ENDED, recording=None, channels=of_channel(counts=LOST, lost_age=5.0).channels)

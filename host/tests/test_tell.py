@@ -22,7 +22,9 @@ def bound(work: Path) -> Iterator[Path]:
     os.chdir(before)
 
 
-@pytest.mark.parametrize("name", ["flight.control", "flight.ch11", "flight", "flight_00003.ch11", "flight.toml", "other.toml", "other"])
+@pytest.mark.parametrize(
+    "name", ["flight.control", "flight.ch11", "flight", "flight_00003.ch11", "flight.toml", "other.toml", "other"]
+)
 def test_the_socket_is_found_by_its_path_the_runs_name_or_its_settings(bound: Path, name: str) -> None:
     Path("other.toml").write_text('[run]\nout = "o.ch11"\ncontrol = "flight.control"\n')
     judge(name, socket_of(name) == "flight.control", socket_of(name))
@@ -42,7 +44,9 @@ def test_a_recording_that_was_written_tells_of_its_end(bound: Path) -> None:
         Path(f"ended_{number:05}.ch11").write_bytes(b"")
     for name in ("ended", "ended.ch11", "ended_00002.ch11"):
         done = outcome(TOOLS / "tell", name, "status", cwd=bound)
-        end = "nobody listens there, or at ended.control: the run has ended, and ended_00002.ch11 is its last recording\n"
+        end = (
+            "nobody listens there, or at ended.control: the run has ended, and ended_00002.ch11 is its last recording\n"
+        )
         judge(name, (done.returncode, done.stderr) == (3, f"bpfrec tell: {name}: {end}"), done)
 
 

@@ -23,7 +23,20 @@ from recordings import (
     recordings,
     settings_of,
 )
-from support import BPFREC, MEBIBYTE, SECOND, SECONDS, TOOLS, Running, judge, judge_quietly, outcome, present, run, wait_for
+from support import (
+    BPFREC,
+    MEBIBYTE,
+    SECOND,
+    SECONDS,
+    TOOLS,
+    Running,
+    judge,
+    judge_quietly,
+    outcome,
+    present,
+    run,
+    wait_for,
+)
 
 pytestmark = [
     pytest.mark.wanted("bin/bpfrec", "bin/capture", "ip", "mkfs.ext4", "mount"),

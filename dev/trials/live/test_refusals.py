@@ -102,7 +102,11 @@ def refusals(work: Path) -> list[tuple[list, int, str]]:
         (["o.pcap", "rx0"], 2, f"o.pcap: {NO_CAPTURE}"),
         ([settings, "o.pcapng", "rx0=1"], 2, f"o.pcapng: {NO_CAPTURE}"),
         ([settings, one, "rx0=1"], 2, f"{settings}:8: channel 2: {UNFED}"),
-        ([settings, "--force", settings.parent / "all", "rx0=1", "rx1=2"], 3, f"{work}/all: it is {work}/all itself, {READ}"),
+        (
+            [settings, "--force", settings.parent / "all", "rx0=1", "rx1=2"],
+            3,
+            f"{work}/all: it is {work}/all itself, {READ}",
+        ),
         (["private", "OUT"], 3, "private: it is a directory"),
         (["--require-clock", "1", "sec", "OUT", "rx0"], 3, "sec: no such file"),
         (["/no/o.ch11", "rx0"], 3, "/no/o.ch11: no such folder"),

@@ -136,11 +136,11 @@ def test_a_slice_by_times_of_day_goes_over_midnight_and_over_recordings(work: Pa
         run(EXPORT, "--force", *words, two, one, work / "both.pcapng")
         seen = [it.moment for it in seen_in(work / "both.pcapng")]
         judge_quietly(f"{words}: {seen}", seen == moments_by(origins, wanted))
-    for words in (["--from", "23:59:57"], ["--to", "0.4"], ["--from", "2025-12-02T00:00:02.500000001Z"]):
-        done = outcome(EXPORT, *words, one, two, work / "none.pcapng")
+    for asked in (["--from", "23:59:57"], ["--to", "0.4"], ["--from", "2025-12-02T00:00:02.500000001Z"]):
+        done = outcome(EXPORT, *asked, one, two, work / "none.pcapng")
         span = "2025-12-01T23:59:58.5000000Z to 2025-12-02T00:00:02.5000000Z"
         line = f"bpfrec export: no frame lies there: the recordings have frames from {span}\n"
-        judge(f"outside: {words}", (done.returncode, done.stderr) == (1, line), done)
+        judge(f"outside: {asked}", (done.returncode, done.stderr) == (1, line), done)
     done = outcome(EXPORT, "--from", "00:00:02", "--to", "00:00:01", two, work / "none.pcapng")
     line = "bpfrec export: --to isn't after --from, so no frame lies between them\n"
     judge("times that are exchanged", (done.returncode, done.stderr) == (1, line), done)

@@ -110,10 +110,18 @@ def test_a_last_recording_that_is_missing_is_told_by_all(flight: Path, work: Pat
     judge("a capture", (done.returncode, done.stderr) == (0, f"{line}\n"), done)
     done = outcome(EXPORT, flight, work / "run.ch10")
     gaps = f"{line}: --gaps makes a file without it\n"
-    judge("a whole file is refused", (done.returncode, done.stderr, (work / "run.ch10").exists()) == (1, gaps, False), done)
+    judge(
+        "a whole file is refused",
+        (done.returncode, done.stderr, (work / "run.ch10").exists()) == (1, gaps, False),
+        done,
+    )
     judge("but with --gaps", outcome(EXPORT, "--gaps", flight, work / "run.ch10").returncode == 0)
     lines = run(INFO, flight).splitlines()
-    judge("info", any(it.startswith(middle.name) and it.endswith("next missing: flight_00003.ch11") for it in lines), lines)
+    judge(
+        "info",
+        any(it.startswith(middle.name) and it.endswith("next missing: flight_00003.ch11") for it in lines),
+        lines,
+    )
     judge("of files by their names nothing", outcome(EXPORT, first, middle, work / "two.pcapng").stderr == "")
 
 
@@ -132,7 +140,11 @@ def test_info_has_the_marks_and_losses_of_all(flight: Path) -> None:
     judge("each with its recording", [it[0] for it in found] == [middle.name] * 3, lines)
     kinds = ("mark ", "interruption ", "frames lost ")
     judge("mark, interruption, loss", all(it[1].startswith(kind) for it, kind in zip(found, kinds)), found)
-    judge("with what they say", "gear up" in found[0][1] and "eth0 down" in found[1][1] and "7 dropped" in found[2][1], found)
+    judge(
+        "with what they say",
+        "gear up" in found[0][1] and "eth0 down" in found[1][1] and "7 dropped" in found[2][1],
+        found,
+    )
 
 
 def test_info_and_a_capture_say_which_is_missing_in_the_middle(flight: Path, work: Path) -> None:

@@ -153,7 +153,9 @@ def test_a_recording_without_a_packet_is_no_answer(work: Path) -> None:
     """But in a run, where others have some."""
     empty, out = work / "empty.ch11", work / "out"
     empty.write_bytes(b"")
-    for words in ([SALVAGE], [EXPORT, "--as", "pcapng"], [EXPORT, "--as", "chapter11", "--origin", "1764590400"]):
+    whole = [EXPORT, "--as", "chapter11", "--origin", "1764590400"]
+    cases: list[list] = [[SALVAGE], [EXPORT, "--as", "pcapng"], whole]
+    for words in cases:
         done = outcome(*words, empty, out)
         judge("it is refused", done.returncode == 1 and "it is empty: there is no packet" in done.stderr, done)
         judge("and nothing is made", not out.exists())

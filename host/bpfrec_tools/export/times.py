@@ -134,7 +134,11 @@ def refuse_outside(recordings: list[tuple[Recording, list[Range]]]) -> None:
 
 def text_of_end(moment: int, recording: Recording) -> str:
     """The moment of a frame, as UTC or in seconds since counter 0."""
-    return tick_of(moment) if recording.facts else f"{moment // NANOSECONDS_A_SECOND}.{moment % NANOSECONDS_A_SECOND:09d} s"
+    return (
+        tick_of(moment)
+        if recording.facts
+        else f"{moment // NANOSECONDS_A_SECOND}.{moment % NANOSECONDS_A_SECOND:09d} s"
+    )
 
 
 def on_day(time: Asked, least: int) -> Optional[Time]:

@@ -97,7 +97,11 @@ def judge_refusals(given: Arguments, settings: Optional[Settings], report: Repor
     count = max(len(given.routes), len(settings.recorded()) if settings else 0)
     of_options = (ahead.refuse_captures, ahead.refuse_alarm_command, ahead.refuse_control, ahead.refuse_signing)
     refusals: list[Callable[[], object]] = [partial(it, given) for it in (*of_options, refuse_endpoint)]
-    refusals += [partial(ahead.refuse_inputs, given, ()), ahead.refuse_holder, partial(ahead.refuse_few_descriptors, given, count)]
+    refusals += [
+        partial(ahead.refuse_inputs, given, ()),
+        ahead.refuse_holder,
+        partial(ahead.refuse_few_descriptors, given, count),
+    ]
     if settings:
         known = settings._replace(channels=[it for it in settings.channels if it.id() is not None])
         refusals += [partial(refuse_settings, known, given)]

@@ -149,7 +149,9 @@ def up_to_packet(pieces: Iterator[Piece], path: str) -> list[Piece]:
         found.append(piece)
         if isinstance(piece, Packet):
             return found
-    raise Refused(f"{path}: no recording{guess_at(path)}: no packet of it is whole" if found else f"{path}: {NO_PACKET}")
+    raise Refused(
+        f"{path}: no recording{guess_at(path)}: no packet of it is whole" if found else f"{path}: {NO_PACKET}"
+    )
 
 
 def run(arguments: list[str]) -> int:

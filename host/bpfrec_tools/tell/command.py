@@ -26,8 +26,8 @@ Sends lines to a run of bpfrec live, and waits for what each comes to:
   bpfrec tell flight.toml set "bus A" udp port 5004
   bpfrec tell /run/bpfrec/control next
 
-RUN is the name of the run or of one of its recordings, whose socket is flight.control beside flight.ch11; or the settings of the flight, by which
-it is found; or the socket itself, as where `live --control PATH` or `control` in [run] names another.
+RUN is the name of the run or of one of its recordings, and its socket is flight.control beside flight.ch11. It may be the
+settings of the flight too, or the socket itself, as where `live --control PATH` or `control` in [run] names another.
 
 A LINE is one that bpfrec live takes on standard input: `set CHANNEL FILTER`, `mark TEXT`, `status`, `next`, `stop` or
 `help`; its arguments are joined by blanks. Without one, lines are read from standard input, each once the one before it is
