@@ -66,6 +66,7 @@ def test_a_mark_has_the_counter_of_the_frames_that_come_then(work: Path) -> None
     holds = before - 2 * 10**6 <= moment <= after + 2 * 10**6
     judge("its counter is of that moment", holds, (before, moment, after))
     judge("and so is its time", tick_of(before) <= mark["time"] <= tick_of(after), mark)
+    judge("which is that of its counter", mark["time"] == Facts(facts).time_of(mark["counter"]), mark)
 
 
 def test_texts_that_are_none_get_a_named_answer(work: Path) -> None:

@@ -88,6 +88,18 @@ UNFED = "settings 3 Missing feed: no interface is this channel, as eth0=2"
 READ = "which is read"
 
 
+UNQUOTED = (
+    "line 2, column 11: Expected newline or end of document after a statement: "
+    'a value with a unit is in quotes, as every = "20s"'
+)
+
+
+def unquoted(work: Path) -> Path:
+    path = work / "unquoted.toml"
+    path.write_text("[run]\nevery = 20s # a turn\n")
+    return path
+
+
 def refusals(work: Path) -> list[tuple[list, int, str]]:
     """Calls, what they end with, and what is said of them."""
     settings = settings_of(work)
@@ -99,6 +111,7 @@ def refusals(work: Path) -> list[tuple[list, int, str]]:
         (["rx0", "rx1"], 2, "rx0 is an interface: SETTINGS, OUT, then interfaces"),
         (["nosuch.toml", "OUT", "rx0=1"], 3, "nosuch.toml: no such file"),
         (["nosuch.toml"], 3, "nosuch.toml: no such file"),
+        ([unquoted(work)], 2, f"{work}/unquoted.toml: settings 1 Syntax: {UNQUOTED}"),
         (["o.pcap", "rx0"], 2, f"o.pcap: {NO_CAPTURE}"),
         ([settings, "o.pcapng", "rx0=1"], 2, f"o.pcapng: {NO_CAPTURE}"),
         ([settings, one, "rx0=1"], 2, f"{settings}:8: channel 2: {UNFED}"),
@@ -201,7 +214,7 @@ def test_a_filter_that_can_not_be_installed_is_refused_ahead_by_its_channel(work
         ("private", 3, "channel 2: private: it is a directory"),
     ]:
         settings = write_settings(work, f'id = 1\nfilter = "{work}/all"', f'id = 2\nfilter = "{path}"')
-        judge_refused(work, [settings, "o.ch11", "rx0=1", "rx1=2"], status, told)
+        judge_refused(work, [settings, "o.ch11", "rx0=1", "rx1=2"], status, f"{settings}:9: {told}")
     done = outcome(PREFLIGHT, "--live", write_settings(work, f'id = 1\nfilter = "{TEXT_FOR_ASM}"'), "o.ch11", "rx0=1")
     judge("a text for the assembler is taken", f"filter {TEXT_FOR_ASM}: " in done.stdout, done)
     running = Running(work, LIVE, "--quiet", work / "live.toml", work / "o.ch11", "rx0=1:arp")

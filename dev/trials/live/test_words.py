@@ -175,7 +175,7 @@ def test_settings_have_filters_in_words(work: Path) -> None:
     judge("the facts have the words", found == {1: "udp port 5004", 2: f"{work}/drops.bpf"}, found)
     wrong = write_settings(work, 'id = 1\nfilter = "udp prt 5004"')
     done = outcome(LIVE, wrong, work / "wrong.ch11", "rx0=1")
-    line = "bpfrec live: filter udp prt 5004 of channel 1: tcpdump: "
+    line = f"bpfrec live: {wrong}:5: filter udp prt 5004 of channel 1: tcpdump: "
     judge("a wrong one is refused ahead", done.returncode == 2 and done.stderr.startswith(line), done)
     done = outcome(PREFLIGHT, "--live", wrong, work / "wrong.ch11", "rx0=1")
     judge("preflight says it too", done.returncode == 1 and "filter udp prt 5004 of channel 1: " in done.stdout, done)

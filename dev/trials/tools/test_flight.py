@@ -166,8 +166,8 @@ FAULTS = [
     "flight.toml:4: --every needs a number from 1 to 999999999, in seconds, or as 10m",
     "flight.toml:6: --span needs a number from 0.000001 to 28147497, in seconds, or as 100ms, or 0",
     "flight.toml:12: channel 1: settings 6 SameChannel 1",
-    "flight.toml: filter udp prt 3 of channel 1: tcpdump: can't parse filter expression: syntax error",
-    "flight.toml: filter tcp prt 4 of channel 1: tcpdump: can't parse filter expression: syntax error",
+    "flight.toml:10: filter udp prt 3 of channel 1: tcpdump: can't parse filter expression: syntax error",
+    "flight.toml:15: filter tcp prt 4 of channel 1: tcpdump: can't parse filter expression: syntax error",
     "no1: no such interface",
     "no0: no such interface",
 ]

@@ -149,6 +149,15 @@ def test_what_is_no_recording_is_refused_by_name(work: Path) -> None:
         judge("check says no", done.returncode == 1 and said, done)
 
 
+def test_salvage_says_where_times_and_names_are(work: Path) -> None:
+    damaged, left = work / "damaged.ch11", work / "left.ch11"
+    damaged.write_bytes(SAMPLES[1].read_bytes()[:-8])
+    Path(f"{damaged}.json").write_text("{}")
+    done = outcome(SALVAGE, damaged, left)
+    line = f"{left} has no times and names, which are in {damaged}.json: cp {damaged}.json {left}.json"
+    judge("a line says it", (done.returncode, done.stderr) == (1, f"bpfrec salvage: {line}\n"), done)
+
+
 def test_a_recording_without_a_packet_is_no_answer(work: Path) -> None:
     """But in a run, where others have some."""
     empty, out = work / "empty.ch11", work / "out"

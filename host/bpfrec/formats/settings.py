@@ -13,6 +13,8 @@ CHANNEL_HEADER = re.compile(r"""\s*\[\[\s*["']?channel["']?\s*\]\]""")
 # A key on its own line, or in a header.
 KEY = r"""(?:"([^"\n]*)"|'([^'\n]*)'|([^\s=.,"'#\[\]{}]+))"""
 SET_KEY, HEADER_KEY = re.compile(rf"\s*{KEY}\s*[=.]"), re.compile(rf"\s*\[+\s*{KEY}\s*[].]")
+# A value with a unit, which isn't in quotes.
+UNIT = re.compile(r"\s*([A-Za-z_-]+)\s*=\s*([0-9][0-9.]*[A-Za-z]\w*)\s*(?:#.*)?")
 # What nests, and what a key consists of; anything else is `other`. Texts and comments may be without an end.
 TOKEN = re.compile(
     r"""\#[^\n]*|[.\[\]{}]|[ \t]+
@@ -155,10 +157,11 @@ def judge_depth(text: str) -> None:
 
 def syntax_fault(text: str, fault: str) -> NoToml:
     """The line, the column and the reason of what Python says of a text that is no TOML."""
-    found = re.fullmatch(r"(.*) \(at line (\d+), column (\d+)\)", fault, re.DOTALL)
+    found, lines = re.fullmatch(r"(.*) \(at line (\d+), column (\d+)\)", fault, re.DOTALL), text.split("\n")
     if found:
-        return NoToml(int(found[2]), int(found[3]), found[1])
-    lines = text.split("\n")
+        unit = UNIT.fullmatch(lines[int(found[2]) - 1])
+        advice = f': a value with a unit is in quotes, as {unit[1]} = "{unit[2]}"' if unit else ""
+        return NoToml(int(found[2]), int(found[3]), f"{found[1]}{advice}")
     return NoToml(len(lines), len(lines[-1]) + 1, fault)
 
 

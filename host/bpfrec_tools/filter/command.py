@@ -21,7 +21,8 @@ Writes what a filter keeps of a capture into a capture in pcapng, with the times
   bpfrec filter 'udp port 53' flight.pcap dns.pcapng
 
 EXPRESSION is one as tcpdump takes it, or a file that is a listing or a text for bpfrec asm. IN is a capture of Ethernet
-frames, pcap or pcapng. As IN `-` is standard input, and as OUT standard output.
+frames, pcap or pcapng. As IN `-` is standard input, and as OUT standard output. A frame without its frame check sequence
+(FCS), as most captures have them, gets it in OUT: four bytes more.
 
 It is `live` with the capture in the place of an interface, in a folder of its own in TMPDIR, and then `export`. So the
 proved program filters, and audits what it recorded.

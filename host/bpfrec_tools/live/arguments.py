@@ -3,6 +3,7 @@
 from __future__ import annotations
 
 import argparse
+import os
 import re
 import shlex
 from typing import NamedTuple, NoReturn, Optional
@@ -12,7 +13,7 @@ from bpfrec_tools.chapter11.options import add_setup_options, setup_arguments
 from bpfrec_tools.cli.arguments import Parser, name_of, nearest
 from bpfrec_tools.cli.quantities import IN_PARTS, MAX_SECONDS, number, parts, seconds, size, ticks
 from bpfrec_tools.live.capture_options import add_capture_options
-from bpfrec_tools.live.flight import Flight, by_ids, faults_of, flight_at, operands_with, words_of
+from bpfrec_tools.live.flight import Flight, by_ids, faults_of, flight_at, operands_with, read_toml, words_of
 from bpfrec_tools.live.help import ABOUT, MORE
 from bpfrec_tools.live.kept.names import is_special, refused
 from bpfrec_tools.live.model import are_rotating
@@ -152,45 +153,50 @@ def parser() -> Parser:
         description=ABOUT,
         epilog=MORE,
     )
-    made.add_argument("--force", dest="is_forced", action="store_true", help="overwrites an OUT that exists")
-    made.add_argument("--every", metavar="SECONDS", type=seconds, help="begins a new recording after this time")
-    made.add_argument("--for", metavar="SECONDS", dest="seconds", type=seconds, help="ends the run after this time")
-    made.add_argument("--size", metavar="BYTES", type=size, help="begins a new recording at BYTES bytes")
-    sync = parts(LEAST_SYNC, MAX_SECONDS, f"from {LEAST_SYNC} to {MAX_SECONDS}{IN_PARTS}", has_none=True)
-    made.add_argument("--sync", metavar="SECONDS", type=sync, default=1, help="how often OUT is forced to its disk")
-    made.add_argument("--span", metavar="SECONDS", type=ticks, help="how old a packet gets until it is written: 500ms")
-    count = number(1, MAX_SECONDS, f"from 1 to {MAX_SECONDS}")
-    made.add_argument("--keep", metavar="N", type=count, help="keeps the last N recordings of --every or --size")
-    made.add_argument("--keep-free", metavar="BYTES", type=size, help="removes the oldest until this much is free")
-    made.add_argument("--mode", metavar="MODE", type=file_mode, help="who may read OUT and its facts")
-    add_outside_options(made)
-    kernel = "has the kernel run the filters too"
-    made.add_argument("--prefilter", dest="is_prefiltered", action="store_true", help=kernel)
-    add_options_of_the_end(made)
-    lossless = "exit status 5 if an interface lost frames"
-    made.add_argument("--strict", dest="is_strict", action="store_true", help=lossless)
-    add_capture_options(made)
+    add_options_of_recordings(made.add_argument_group("recordings"))
+    add_options_of_the_end(made.add_argument_group("recordings that have ended"))
+    add_outside_options(made.add_argument_group("to watch, to steer and to send"))
+    add_capture_options(made, made.add_argument_group("the capture, as bpfrec capture --help explains"))
     made.add_argument("operands", nargs="*", help=argparse.SUPPRESS)
     return made
 
 
-def add_options_of_the_end(made: Parser) -> None:
+def add_options_of_recordings(made: argparse._ArgumentGroup) -> None:
+    """What a recording is, and when the next one begins."""
+    made.add_argument("--force", dest="is_forced", action="store_true", help="overwrites an OUT that exists")
+    made.add_argument("--mode", metavar="MODE", type=file_mode, help="who may read OUT and its facts")
+    made.add_argument("--for", metavar="SECONDS", dest="seconds", type=seconds, help="ends the run after this time")
+    made.add_argument("--every", metavar="SECONDS", type=seconds, help="begins a new recording after this time")
+    made.add_argument("--size", metavar="BYTES", type=size, help="begins a new recording at BYTES bytes")
+    count = number(1, MAX_SECONDS, f"from 1 to {MAX_SECONDS}")
+    made.add_argument("--keep", metavar="N", type=count, help="keeps the last N recordings of --every or --size")
+    made.add_argument("--keep-free", metavar="BYTES", type=size, help="removes the oldest until this much is free")
+    made.add_argument("--span", metavar="SECONDS", type=ticks, help="how old a packet gets until it is written: 500ms")
+    sync = parts(LEAST_SYNC, MAX_SECONDS, f"from {LEAST_SYNC} to {MAX_SECONDS}{IN_PARTS}", has_none=True)
+    made.add_argument("--sync", metavar="SECONDS", type=sync, default=1, help="how often OUT is forced to its disk: 1")
+    kernel = "has the kernel run the filters too"
+    made.add_argument("--prefilter", dest="is_prefiltered", action="store_true", help=kernel)
+    asked = "needs a synchronised clock that is off by no more than this"
+    made.add_argument("--require-clock", metavar="SECONDS", dest="clock_error", type=clock_error, help=asked)
+
+
+def add_options_of_the_end(made: argparse._ArgumentGroup) -> None:
     """What is done with each recording that has ended."""
+    made.add_argument("--no-audit", dest="is_audited", action="store_false", help="leaves the audit out")
+    lossless = "exit status 5 if an interface lost frames"
+    made.add_argument("--strict", dest="is_strict", action="store_true", help=lossless)
+    key = "signs the facts of each recording by ssh-keygen, with a key without a passphrase or of an agent"
+    made.add_argument("--sign", metavar="KEY", help=key)
     whole = "makes OUT.ch10, a whole Chapter 11 file, after each recording"
     made.add_argument("--chapter11", dest="makes_whole_files", action="store_true", help=whole)
     add_setup_options(made)
-    key = "signs the facts of each recording by ssh-keygen, with a key without a passphrase or of an agent"
-    made.add_argument("--sign", metavar="KEY", help=key)
-    made.add_argument("--no-audit", dest="is_audited", action="store_false", help="leaves the audit out")
 
 
-def add_outside_options(made: Parser) -> None:
+def add_outside_options(made: argparse._ArgumentGroup) -> None:
     """The options by which others see how the run goes, steer it, or get what it records."""
     made.add_argument("--status", metavar="[ADDRESS:]PORT", help="serves a page that shows how the recording goes")
     named = "a name by which browsers ask for it; may be given again"
     made.add_argument("--status-name", metavar="NAME", dest="status_names", action="append", default=[], help=named)
-    asked = "needs a synchronised clock that is off by no more than this"
-    made.add_argument("--require-clock", metavar="SECONDS", dest="clock_error", type=clock_error, help=asked)
     ran = "runs a program when an alarm begins or ends"
     made.add_argument("--on-alarm", metavar="COMMAND", type=command_words, help=ran)
     made.add_argument("--control", metavar="PATH", help="the socket by which bpfrec tell sends lines")
@@ -214,6 +220,9 @@ def given_by(arguments: list[str]) -> Given:
     options = parser().parse_args(arguments[:end])
     operands = [*options.operands, *arguments[end + 1 :]]
     flight = flight_at(operands[0]) if operands else None
+    if flight is None and len(operands) == 1 and os.path.isfile(operands[0]) and operands[0].endswith(".toml"):
+        # It may be one that can't be read.
+        read_toml(operands[0])
     return Given(arguments[:end], options, by_ids(flight, operands) if flight else operands, flight)
 
 

@@ -21,16 +21,26 @@ VALUED: dict[str, Optional[tuple[str, ...]]] = {
     "--check-sequence": ("adapter", "given", "missing"),
 }
 PLAIN = ("--quiet", "--no-promiscuous")
+ABOUT = {
+    ORIGIN: "the moment of counter 0: now, zero or a time",
+    BUFFER: "the kernel's buffer of each interface, in MiB",
+    "--direction": "frames that come in, that go out, or both",
+    "--clock": "whose times frames have",
+    "--check-sequence": "which frames have their frame check sequence (FCS)",
+    "--quiet": "prints no counts, and shows no table",
+    "--no-promiscuous": "takes no frames that are for others",
+}
 MEBIBYTE = 1 << 20
 
 
-def add_capture_options(parser: argparse.ArgumentParser) -> None:
-    """Has a parser take them, as a list `options`."""
+def add_capture_options(parser: argparse.ArgumentParser, group: argparse._ArgumentGroup) -> None:
+    """Has a group of a parser take them, as a list `options`."""
     options: list[str] = []
     for option, choices in VALUED.items():
-        parser.add_argument(option, metavar="VALUE", choices=choices, action=kept(options), help="as for capture")
+        value = "|".join(choices) if choices else "VALUE"
+        group.add_argument(option, metavar=value, choices=choices, action=kept(options), help=ABOUT[option])
     for option in PLAIN:
-        parser.add_argument(option, nargs=0, action=kept(options), help="as for capture")
+        group.add_argument(option, nargs=0, action=kept(options), help=ABOUT[option])
     parser.set_defaults(options=options)
 
 

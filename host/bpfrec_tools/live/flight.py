@@ -95,6 +95,19 @@ def flight_at(path: str) -> Optional[Flight]:
         return None
 
 
+def read_toml(path: str) -> tuple[str, Settings]:
+    """The text of SETTINGS and what it says; a Refusal where it can't be read."""
+    try:
+        text = read_text(path)
+        return text, settings_of(path, text)
+    except Unread as why:
+        raise refused(3, f"{path}: {why}") from None
+    except NoReader as why:
+        raise refused(3, str(why)) from None
+    except NoToml as fault:
+        raise refused(2, f"{path}: settings 1 Syntax: {fault}") from None
+
+
 # ---- what is wrong
 
 

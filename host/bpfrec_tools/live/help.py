@@ -90,9 +90,8 @@ with an alarm, and the recording stays. `ssh-keygen -Y verify -n bpfrec` verifie
 With --no-audit nothing is audited. With --strict the exit status is 5 if an interface lost frames; either way the last
 lines say how many.
 
-The options with `as for capture` are those of bin/capture, whose help explains them. It prints on standard error, a
-line each second for each interface if there is no table; a line that standard error has no room for is left out and
-counted.
+The capture prints on standard error, a line each second for each interface if there is no table; a line that standard
+error has no room for is left out and counted.
 
 It needs bin/bpfrec (make build) and, for interfaces, bin/capture (make build with libpcap-dev) with the permission to
 capture. BPFREC and CAPTURE name other programs.

@@ -79,7 +79,8 @@ def judge_live(arguments: list[str], report: Report) -> None:
         worded = words_in(settings, {it.channel for it in given.routes if gives_filter(it, given)})
         judge_settings(settings, report, piped, {None, *(it for it, _ in worded)})
         for _, (place, text) in worded:
-            judge_words(given.settings or "", text, partial(listing_in_words, place, text), report)
+            at = place.partition(": filter ")[0]
+            judge_words(at, text, partial(listing_in_words, place.removeprefix(f"{at}: "), text), report)
     for route in given.routes:
         if route.expression:
             judge_words(route.interface, route.expression, partial(listing_of, route), report)

@@ -2,11 +2,13 @@
 
 from __future__ import annotations
 
+import os
 from itertools import chain
 from typing import BinaryIO, Callable, Iterable, Iterator, NoReturn, Optional, Union
 
 from bpfrec.formats.body import Frames
 from bpfrec.formats.guesses import guess_at
+from bpfrec.formats.names import facts_path
 from bpfrec.formats.packet import Damage, Packet
 from bpfrec.formats.reader import reader_of
 from bpfrec.formats.records import End
@@ -164,7 +166,13 @@ def run(arguments: list[str]) -> int:
                 raise OSError(0, "it is DAMAGED itself", path)
         refuse_overwriting(given.out, given.force)
         pieces = watched(damaged, given.quiet)
-        return 0 if salvage_into(given.out, chain(up_to_packet(pieces, given.damaged), pieces)) else 1
+        is_whole = salvage_into(given.out, chain(up_to_packet(pieces, given.damaged), pieces))
+    beside = facts_path(given.damaged)
+    if given.out != STREAM and os.path.isfile(beside):
+        # They stay as they are, since their hash is that of DAMAGED.
+        lack = f"{given.out} has no times and names, which are in {beside}"
+        printing.err(f"{name_of('salvage')}: {lack}: cp {beside} {facts_path(given.out)}")
+    return 0 if is_whole else 1
 
 
 def salvage_into(path: str, pieces: Iterable[Piece]) -> bool:

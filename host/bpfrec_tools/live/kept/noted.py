@@ -7,12 +7,14 @@ import json
 from pathlib import Path
 from typing import Any, Iterator, NamedTuple, Optional
 
-from bpfrec.formats.facts import tick_of
-from bpfrec.formats.limits import MAX_COUNTER, MAX_LISTING_LEN, TICKS_A_SECOND
+from bpfrec.formats.facts import TURN, nanoseconds_of, tick_of
+from bpfrec.formats.limits import MAX_COUNTER, MAX_LISTING_LEN, NANOSECONDS_A_TICK, TICKS_A_SECOND
 from bpfrec.formats.listing import listing_in
 from bpfrec_tools.live.parts.folder import MARKS
 
 Entry = dict[str, Any]
+# By so many nanoseconds the host's clock and a mark's counter differ at most, where nobody has set it.
+MOST_APART = 1_000_000
 # Where the filters are, and how many bytes long that gets by those that lines set: what reads facts refuses long ones.
 FILTERS, MOST_FILTERS_LEN = "filters", 4 << 20
 
@@ -28,7 +30,17 @@ class Noted(NamedTuple):
         """The mark as the facts have it. Its counter is that of a frame that came then, whose clock may run TAI."""
         ahead = origins[-1].get("tai_offset") or 0 if origins else 0
         counter = (self.counter + ahead * TICKS_A_SECOND) & MAX_COUNTER
-        return {"counter": counter, "time": tick_of(self.moment), "text": self.text}
+        return {"counter": counter, "time": tick_of(self.time(counter, origins)), "text": self.text}
+
+    def time(self, counter: int, origins: list[Entry]) -> int:
+        """Its moment by its counter, as all have it that read facts; by the host's clock where that was set since."""
+        held = [it for it in origins if it.get("counter", 0) <= counter]
+        moment = nanoseconds_of(held[-1].get("origin")) if held else None
+        if moment is None:
+            return self.moment
+        moment += self.counter * NANOSECONDS_A_TICK
+        moment += (self.moment - moment + TURN // 2) // TURN * TURN
+        return moment if abs(moment - self.moment) < MOST_APART else self.moment
 
 
 def note(folder: Path, mark: Noted) -> None:

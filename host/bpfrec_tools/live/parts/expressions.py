@@ -11,7 +11,7 @@ from typing import Container, Optional
 
 from bpfrec.formats.answers import is_no_listing
 from bpfrec.formats.listing import listing_in, no_listing
-from bpfrec.formats.settings import Settings
+from bpfrec.formats.settings import Channel, Settings
 from bpfrec_tools.cli import program
 from bpfrec_tools.live.arguments import Arguments
 from bpfrec_tools.live.kept.names import is_special, refused, unreadable
@@ -100,8 +100,13 @@ def words_in(settings: Settings, given: Container[int]) -> list[tuple[int, tuple
     for channel in settings.channels:
         named, text = channel.table.get("id"), channel.path("filter")
         if isinstance(named, int) and named not in given and text is not None and is_in_words(text):
-            found.append((named, (f"filter {text} of {channel.name}", text)))
+            found.append((named, (f"{place_of(settings, channel)}: filter {text} of {channel.name}", text)))
     return found
+
+
+def place_of(settings: Settings, channel: Channel) -> str:
+    """The file of settings, and the line of a channel's filter where it is known."""
+    return ":".join(str(it) for it in (settings.file, channel.line("filter")) if it)
 
 
 def settings_text(routes: list[Route]) -> str:
@@ -128,7 +133,7 @@ def judge_filters(settings: Settings, given: Arguments) -> None:
             continue
         if channel.table.get("id") not in replaced:
             judged.add(path)
-            judge_filter(channel.name, path)
+            judge_filter(f"{place_of(settings, channel)}: {channel.name}", path)
 
 
 def judge_filter(name: str, path: str) -> None:

@@ -22,11 +22,10 @@ from typing import Any, BinaryIO, Optional
 
 from bpfrec.formats.limits import MAX_COUNTER, MAX_LISTING_LEN
 from bpfrec.formats.listing import listing_in
-from bpfrec.formats.settings import NoReader, NoToml, Settings, settings_of
+from bpfrec.formats.settings import Settings, settings_of
 from bpfrec.formats.settings_text import text_of
-from bpfrec_tools.cli.files import Unread, read_text
 from bpfrec_tools.live.arguments import Arguments
-from bpfrec_tools.live.flight import texts_of, without_flight
+from bpfrec_tools.live.flight import read_toml, texts_of, without_flight
 from bpfrec_tools.live.kept.names import refused
 from bpfrec_tools.live.operands import Route
 from bpfrec_tools.live.parts import system
@@ -52,15 +51,8 @@ WORDS = ".words"
 
 def read_settings(path: str) -> tuple[str, Settings]:
     """The text of SETTINGS and what it says; a Refusal where it can't be read."""
-    try:
-        text = read_text(path)
-        return text, without_flight(settings_of(path, text))
-    except Unread as why:
-        raise refused(3, f"{path}: {why}") from None
-    except NoReader as why:
-        raise refused(3, str(why)) from None
-    except NoToml as fault:
-        raise refused(2, f"{path}: settings 1 Syntax: {fault}") from None
+    text, settings = read_toml(path)
+    return text, without_flight(settings)
 
 
 def made_settings(routes: list[Route]) -> tuple[str, Settings]:
