@@ -7,6 +7,7 @@ import resource
 import shutil
 from typing import Container, Iterable, Iterator
 
+from bpfrec.formats.limits import CHANNEL_KEYS
 from bpfrec.formats.settings import Channel, Settings
 from bpfrec_tools.cli.signatures import Unsigned
 from bpfrec_tools.cli.streams import input_at
@@ -68,10 +69,11 @@ def refuse_lacking(settings: Settings, given: Arguments) -> None:
 
 
 def lack_of(channel: Channel, known: list[Channel], routed: Container[object]) -> str:
-    """What a channel lacks, beside those ahead of it; nothing of an ID that is none, which the recorder refuses."""
+    """What a channel lacks, beside those ahead of it; nothing of an ID or a key that is none, which the recorder refuses
+    first."""
     if "id" not in channel.table:
         return "settings 3 Missing id"
-    if channel.id() is None:
+    if channel.id() is None or set(channel.table) - set(CHANNEL_KEYS):
         return ""
     if any(it.id() == channel.id() for it in known):
         return f"settings 6 SameChannel {channel.id()}"
