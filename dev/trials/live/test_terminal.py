@@ -88,7 +88,7 @@ def test_lines_that_are_pasted_at_once_keep_their_answers(work: Path) -> None:
     wait_for(lambda: f"the table is there: {seen.text()}", lambda: "RECORDING" in seen.text(), 10)
     for count in (3, 6):
         os.write(master, b"mark a\nmark b\nmark c\n")
-        wait_for(lambda: f"three more: {seen.text()}", lambda count=count: seen.text().count("marked ") == count, 10)
+        seen.wait_until_shown("marked ", count)
         time.sleep(1.5)
     os.write(master, CTRL_C)
     wait_for(lambda: f"the audit: {seen.text()}", lambda: YES in seen.text(), 20)
@@ -114,6 +114,9 @@ class Seen:
             except OSError:
                 break
         return self.screen.text()
+
+    def wait_until_shown(self, what: str, count: int) -> None:
+        wait_for(lambda: f"{count} of {what!r}: {self.text()}", lambda: self.text().count(what) == count, 10)
 
 
 @pytest.mark.parametrize("words", [["--quiet"], []], ids=["plain", "table"])
