@@ -49,7 +49,7 @@ impl<'a> CommandEnding<'a> {
 /// What it means that a file can't be opened, read or written, where an expression may have been meant.
 fn hint_of_file(path: &str) -> &'static str {
     if path.as_bytes().contains(&b' ') {
-        "it can't be opened: a filter in words, as udp port 53, is for bpfrec filter, and for bpfrec live"
+        "it can't be opened or written: look at its name and its disk; a filter in words is for bpfrec filter and live"
     } else {
         "it can't be opened, read or written: look at its name, its permissions and the room on its disk"
     }

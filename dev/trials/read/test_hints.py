@@ -47,6 +47,7 @@ def test_a_terminal_is_told_what_an_answer_means(
 
 
 PCAPNG = b"\n\r\r\n\x1c\0\0\0\x4d\x3c\x2b\x1a"
+WORDED = "it can't be opened or written: look at its name and its disk; a filter in words is for bpfrec filter and live"
 CHANNEL = '[[channel]]\nid = 1\nfeed = "none"\nfilter = "none"\n'
 
 
@@ -81,7 +82,7 @@ def test_a_terminal_is_told_of_a_file(work: Path, command: str, given: "str | by
         (f"ring = 0\n{CHANNEL}", "settings 4 Value ring", "it is of another type, or out of its range"),
         ("limit = 65536", "settings 5 Channels", "there are 1 to 64 tables [[channel]]"),
         (2 * CHANNEL, "settings 6 SameChannel 1", "each channel has an id of its own"),
-        (CHANNEL.replace('"none"', '"udp port 53"'), "file udp port 53", "it can't be opened: a filter in words"),
+        (CHANNEL.replace('"none"', '"udp port 53"'), "file udp port 53", WORDED),
     ],
 )
 def test_a_terminal_is_told_of_settings(work: Path, settings: str, printed: str, told: str) -> None:
@@ -94,7 +95,7 @@ def test_a_terminal_is_told_of_settings(work: Path, settings: str, printed: str,
 
 def test_a_filter_in_words_is_no_file() -> None:
     said = shown(["asm", "udp port 53"])[1]
-    judge("what takes words", said.startswith("file udp port 53\nbpfrec: it can't be opened: a filter in words"), said)
+    judge("what takes words", said == f"file udp port 53\nbpfrec: {WORDED}\n", said)
 
 
 def test_a_terminal_is_told_what_to_look_at(work: Path) -> None:

@@ -170,8 +170,8 @@ class ControlLines(Part):
         self.push(recorder)
 
     def is_without(self, recorder: Recorder) -> bool:
-        """Whether nothing is recorded until a next recording begins, which may last."""
-        return recorder.recording.has_failed or recorder.recording.was_killed
+        """Whether nothing is recorded until a next recording begins, which may last; behind a killed one it begins soon."""
+        return recorder.recording.has_failed
 
     def pass_by(self, recorder: Recorder) -> None:
         """Obeys the words that wait behind changes of filters. A change by the socket is refused, for whose answer
