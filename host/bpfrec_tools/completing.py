@@ -95,6 +95,12 @@ def of_tool(verb: str, words: list[str]) -> list[str]:
         return beginning_with(word, [*options, "--version"])
     if verb == "tell" and before:
         return of_line(before[0], before[1:], word)
+    if verb in ("live", "preflight") and before and ("=" in word or before[-1] == "="):
+        # Some shells take a word apart at its sign.
+        ahead, sign, begun = word.rpartition("=")
+        flights = [flight for flight in map(flight_at, before) if flight]
+        known = [str(it) for flight in flights for it in (*flight.routes(), *flight.names(), *flight.names().values())]
+        return [f"{ahead}{sign}{it}" for it in beginning_with(begun, known)]
     if sum(not it.startswith("-") for it in before) == WORDED.get(verb):
         return []
     offers = files(word, verbs.VERBS[verb].kinds.split() or ["*"])

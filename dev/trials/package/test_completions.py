@@ -39,6 +39,8 @@ OFFERS = {
     "publish --interface l": {"lo"},
     "tell control s": {"set", "status", "stop"},
     "live --clock ": {"host", "adapter"},
+    "live sub/flight.toml lo=": {"lo=3", "lo=bus_C"},
+    "live sub/flight.toml lo = ": {"3", "bus_C"},
     "live --origin n": {"now"},
     "export sub/named.ch11 --channel ": {"1", "2", "bus_A", "eth1"},
     "follow sub/named.ch11 --channel b": {"bus_A"},
