@@ -19,8 +19,7 @@ from recordings import has_open
 from support import EXPORT, FOLLOW, judge, judge_quietly, outcome, wait_for
 from whole_file import SETUP
 
-WANTED = ("bin/bpfrec", "ip", "tshark")
-pytestmark = [pytest.mark.usefixtures("namespace")]
+pytestmark = [pytest.mark.wanted("bin/bpfrec", "ip", "tshark"), pytest.mark.usefixtures("namespace")]
 SECONDS = 60
 
 

@@ -22,7 +22,7 @@ from whole_file import Origin, Setup
 from whole_file_parts import parts_of
 from whole_file_trials import setup_text
 
-WANTED = ("bin/bpfrec",)
+pytestmark = pytest.mark.wanted("bin/bpfrec")
 MEMORY, MIB = 64 << 20, 1 << 20
 OTHER = 0x40
 MAX_SETUP_LEN = 16_777_216

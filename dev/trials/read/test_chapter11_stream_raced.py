@@ -20,7 +20,7 @@ from streamed import Stream
 from support import BPFREC, judge, judge_quietly, present
 from whole_file_trials import setup_text
 
-WANTED = ("bin/bpfrec",)
+pytestmark = pytest.mark.wanted("bin/bpfrec")
 CHANNELS, FRAMES, CHANGES = 3, 400, 12
 
 
