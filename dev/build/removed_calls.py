@@ -4,8 +4,8 @@
 A call whose value isn't used, as one that prints, counts, closes or sets, may be missing though each part is tested. All
 such calls of host/bpfrec_tools are found in its text; one after the other is replaced by nothing, in a copy, and the
 tests of that tool run: first those of parts, and where these pass its trials. PATH names files and folders below
-host/bpfrec_tools, as publish or live/kept; without one all are taken. Each that passes is named with its line. The last
-line is `N passed, N failed`.
+host/bpfrec_tools, as publish or live/kept, or a line of one, as publish/command.py:49; without one all are taken. Each
+call that no test misses is named with its line. The last line is `N passed, N failed`.
 """
 import argparse
 import ast
@@ -39,7 +39,7 @@ ROWS: dict[str, tuple[list[str], list[str]]] = {
     ),
     "filter": ([], ["dev/trials/tools/test_filter.py"]),
     "follow": (
-        ["host/tests/test_follow_runs.py", "host/tests/test_several.py"],
+        ["host/tests/test_follow_runs.py", "host/tests/test_several.py", "host/tests/test_parts_called.py"],
         ["dev/trials/live/test_follow.py", "dev/trials/live/test_marks.py"],
     ),
     "info": (
@@ -61,11 +61,11 @@ ROWS: dict[str, tuple[list[str], list[str]]] = {
     "live/status": (["host/tests/test_status_*.py"], ["dev/trials/live/test_status.py"]),
     "preflight": (["host/tests/test_preflight_flights.py"], ["dev/trials/tools/test_preflight.py"]),
     "publish": (
-        ["host/tests/test_publish_*.py"],
+        ["host/tests/test_publish_*.py", "host/tests/test_parts_called.py"],
         ["dev/trials/live/test_publish.py", "dev/trials/live/test_publish_ends.py"],
     ),
     "receive": (
-        ["host/tests/test_publish_datagrams.py"],
+        ["host/tests/test_publish_datagrams.py", "host/tests/test_parts_called.py"],
         ["dev/trials/live/test_receive.py", "dev/trials/live/test_receive_shown.py", "dev/trials/live/test_publish.py"],
     ),
     "salvage": (
@@ -98,6 +98,15 @@ def removed_in(path: str, text: str) -> list[Removed]:
     found = [it for it in ast.walk(ast.parse(text)) if isinstance(it, ast.Expr) and isinstance(it.value, ast.Call)]
     made = [Removed(path, it.lineno, ast.unparse(it), without(text, it)) for it in found]
     return sorted(it for it in made if ".add_argument(" not in it.call)
+
+
+def removed_at(place: str) -> list[Removed]:
+    """The calls of a file, of a folder, or of a line of a file, as users name these."""
+    name, _, line = place.partition(":")
+    top = ROOT / TOOLS / name
+    files = [top] if top.is_file() else sorted(top.rglob("*.py"))
+    found = [it for file in files for it in removed_in(str(file.relative_to(ROOT)), file.read_text(encoding="utf-8"))]
+    return [it for it in found if line in ("", str(it.line))]
 
 
 def tests_of(path: str) -> tuple[list[str], list[str]]:
@@ -143,9 +152,7 @@ def main() -> int:
     parser.add_argument("--processes", type=int, default=2, help="how many run beside one another")
     parser.add_argument("--no-trials", action="store_true", help="runs tests of parts alone")
     given = parser.parse_args()
-    tops = [ROOT / TOOLS / it for it in given.paths]
-    files = sorted({file for top in tops for file in ([top] if top.is_file() else top.rglob("*.py"))})
-    chosen = [it for file in files for it in removed_in(str(file.relative_to(ROOT)), file.read_text(encoding="utf-8"))]
+    chosen = sorted({it for path in given.paths for it in removed_at(path)})
     if given.seconds:
         random.Random(given.seed or commit()).shuffle(chosen)
     plain_copy()

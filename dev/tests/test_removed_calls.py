@@ -54,3 +54,12 @@ def test_a_folder_within_a_tool_has_its_own() -> None:
     found = [removed_calls.tests_of(str(removed_calls.TOOLS / it)) for it in tops]
     assert found == [removed_calls.ROWS[it] for it in ("live/kept", "live", "tell")]
     assert removed_calls.tests_of(str(removed_calls.TOOLS / "verbs.py")) == ([], [])
+
+
+def test_calls_are_named_by_folder_file_and_line() -> None:
+    found = {place: removed_calls.removed_at(place) for place in ("", "publish", "publish/command.py")}
+    counts = [len(it) for it in found.values()]
+    assert counts[0] > counts[1] > counts[2] > 0
+    one = found["publish/command.py"][3]
+    assert one in removed_calls.removed_at(f"publish/command.py:{one.line}")
+    assert {it.line for it in removed_calls.removed_at(f"publish/command.py:{one.line}")} == {one.line}

@@ -217,7 +217,6 @@ class Recording(Growing):
             if self.shows(record.channel):
                 self.view.program(record, self.name(record.channel))
         elif isinstance(record, End):
-            self.named.add(record.channel)
             self.ended.add(record.channel)
 
     def take_frames(self, front: Front) -> None:
