@@ -47,7 +47,10 @@ ROWS: dict[str, tuple[list[str], list[str]]] = {
         ["dev/trials/read/test_info*.py", "dev/trials/read/test_runs.py"],
     ),
     "live": ([LIVE_UNITS], ["dev/trials/live/test_recordings.py", "dev/trials/live/test_refusals.py"]),
-    "live/control": ([LIVE_UNITS], ["dev/trials/live/test_control.py", "dev/trials/live/test_words.py"]),
+    "live/control": (
+        [LIVE_UNITS, "host/tests/test_parts_called.py"],
+        ["dev/trials/live/test_control.py", "dev/trials/live/test_words.py"],
+    ),
     "live/kept": (
         [LIVE_UNITS],
         [f"dev/trials/live/test_{it}.py" for it in ("facts", "rotation", "signing", "ring", "whole_files", "marks")],
@@ -70,7 +73,11 @@ ROWS: dict[str, tuple[list[str], list[str]]] = {
     ),
     "salvage": (
         ["host/tests/test_tools.py"],
-        ["dev/trials/read/test_ch11_ends.py", "dev/trials/tools/test_progress.py"],
+        [
+            "dev/trials/read/test_info_damage.py",
+            "dev/trials/tools/test_overwriting.py",
+            "dev/trials/tools/test_endings.py",
+        ],
     ),
     "tell": (["host/tests/test_tell.py", "host/tests/test_several.py"], ["dev/trials/live/test_control.py"]),
 }

@@ -1,4 +1,4 @@
-"""Tries that what follows, publishes and receives recordings calls its parts: what a run would show late or seldom, if
+"""Tries that what follows, publishes, receives and salvages recordings calls its parts: what a run would show late or seldom, if
 one of these calls were missing."""
 
 import argparse
@@ -25,9 +25,11 @@ from bpfrec_tools.receive import source
 from bpfrec_tools.receive.command import Receiver
 from bpfrec_tools.receive.output import Files
 from bpfrec_tools.receive.shown import Shown
+from bpfrec_tools.salvage import command as salvage
 from expected_facts import facts_of_run
 from frames import end_packet, program_packet
 from pcapng_blocks import COMMENT, INTERFACE, blocks_in, lines_at_frames
+from reading import packets_of
 from small_recordings import ONE_ORIGIN, packet, recording
 from support import judge
 
@@ -202,6 +204,23 @@ def test_a_socket_that_sends_has_more_room_than_others(is_forced: bool, monkeypa
         judge("more", found > usual, (found, usual))
         judge("it isn't waited for, and may go to all", not made.getblocking())
         judge("broadcasts", made.getsockopt(socket.SOL_SOCKET, socket.SO_BROADCAST) == 1)
+
+
+# ---- salvage
+
+
+@pytest.mark.parametrize("gaps", [(), (2,), (1, 3)], ids=["none", "one", "two"])
+def test_salvage_names_each_gap_of_numbers(work: Path, gaps: tuple[int, ...]) -> None:
+    """Though no byte is damaged, it isn't whole."""
+    parts = [packet(1, [10 * it], it) for it in range(5) if it not in gaps]
+    lines: list[str] = []
+    with open(work / "out", "w+b") as out:
+        is_whole = salvage.copy(
+            packets_of(program_packet(1, 0) + b"".join(parts) + end_packet(1, 5)), out, lines.append
+        )
+    named = [it.split()[:6] for it in lines if it.startswith("missing ")]
+    wanted = [["missing", "1", "of", "1", "from", str(it)] for it in gaps]
+    judge("each", (is_whole, named) == (not gaps, wanted), lines)
 
 
 # ---- receive
