@@ -1,12 +1,14 @@
 #!/usr/bin/env python3
-"""Times `bpfrec chapter11` of a recording beside `cp` of the same file.
+"""Times `bpfrec chapter11` of a recording, of several and as a stream beside `cp` of the same file.
 
-BPFREC is the program that `make build` leaves in bin/. The recordings have MEGABYTES (1,024) of packets of 65,536 bytes
-at most, of four channels in turn, with frames of 1,500 bytes and of 64, a microsecond after one another, in a temporary
-folder (TMPDIR). `cp --reflink=never`, with `sync` of the copy, since `chapter11` forces its file to the disk, and
-`chapter11` run ROUNDS times each, in turn, and what they wrote is removed in between. It prints the median of each with
-the least and the greatest time, how many times as long `chapter11` takes by the medians, and the most memory that it
-takes. The status is 1 if it takes over 3 times as long at 1,500 bytes, or 5 at 64.
+BPFREC is the program that `make build` leaves in bin/. The recordings have MEGABYTES (1,024) together, of packets of
+65,536 bytes at most, of four channels in turn, with frames of 1,500 bytes and of 64, a microsecond after one another, in
+a temporary folder (TMPDIR). With --recordings N these are N recordings of one length, which become one file.
+`cp --reflink=never`, with `sync` of the copy, since `chapter11` forces its file to the disk (of several `cat` takes its
+place), `chapter11`, and `chapter11 --stream` of the first recording, run ROUNDS times each, in turn, and what they wrote
+is removed in between. It prints the median of each with the least and the greatest time, how many times as long
+`chapter11` takes by the medians, and the most memory that both take. The status is 1 if one recording takes over 3 times
+as long at 1,500 bytes, or 5 at 64.
 """
 import argparse
 import os
@@ -27,7 +29,10 @@ CHANNELS = 4
 # The bytes of a packet, and those of it and of a frame that are no frame's bytes.
 PACKET, AROUND_PACKET, AROUND_FRAME = 65_536, 32, 12
 TICKS_A_FRAME = 10
-SETUP = 'origin = "1764590400"\n'
+ORIGIN = 1_764_590_400
+STREAM = f'origin = "{ORIGIN}"\n' + "".join(f"[[channel]]\nid = {it}\n" for it in range(1, CHANNELS + 1))
+# Of a program, SETUP, a recording and the output; of an output and recordings.
+STREAMING, JOINING = 'exec "$0" chapter11 --stream "$1" < "$2" > "$3"', 'cat "$@" > "$0" && sync "$0"'
 
 
 def packet(number: int, length: int) -> bytes:
@@ -53,29 +58,46 @@ def write_recording(path: Path, length: int, megabytes: int) -> int:
     return count
 
 
-def measure(bpfrec: str, work: Path, length: int, megabytes: int) -> bool:
+def setup_of(recordings: int) -> str:
+    """SETUP of recordings that began a second after one another."""
+    if recordings == 1:
+        return f'origin = "{ORIGIN}"\n'
+    return "".join(f'[[recording]]\norigin = "{ORIGIN + it}"\n' for it in range(recordings))
+
+
+def measure(bpfrec: str, work: Path, length: int, megabytes: int, recordings: int) -> bool:
     """Prints what was measured with frames of a length: whether it is fast enough."""
-    recording, setup, out = work / "recording", work / "setup", work / "out"
-    setup.write_text(SETUP)
-    count = write_recording(recording, length, megabytes)
-    words = [bpfrec, "chapter11", str(recording), str(setup), str(out)]
-    times = times_of({"cp": copying(str(recording), str(out)), "chapter11": words}, str(out))
-    print(f"{megabytes} MiB, {count} packets of frames of {length} bytes")
+    files, out = [str(work / f"recording{it}") for it in range(recordings)], str(work / "out")
+    (work / "setup").write_text(setup_of(recordings))
+    (work / "stream").write_text(STREAM)
+    count = sum(write_recording(Path(it), length, megabytes // recordings) for it in files)
+    runs = {
+        "cp": copying(files[0], out) if recordings == 1 else ["sh", "-c", JOINING, out, *files],
+        "chapter11": [bpfrec, "chapter11", *files, str(work / "setup"), out],
+        "--stream": ["sh", "-c", STREAMING, bpfrec, str(work / "stream"), files[0], out],
+    }
+    times = times_of(runs, out)
+    print(f"{recordings} of {megabytes} MiB together, {count} packets of frames of {length} bytes")
     for name, spent in times.items():
         print(f"{name:10} {statistics.median(spent):.2f} s ({min(spent):.2f} to {max(spent):.2f})")
     longer = statistics.median(times["chapter11"]) / statistics.median(times["cp"])
-    print(f"chapter11 takes {longer:.2f} times as long as cp, and {memory_of(words):.1f} MB", flush=True)
-    out.unlink()
-    return longer <= MOST_TIMES[length]
+    memory = [memory_of(runs[it]) for it in ("chapter11", "--stream")]
+    print(f"chapter11 takes {longer:.2f} times as long as cp, and {memory[0]:.1f} MB; --stream {memory[1]:.1f} MB")
+    print(f"load: {os.getloadavg()[0]:.1f} on {os.cpu_count()} processors", flush=True)
+    return recordings > 1 or longer <= MOST_TIMES[length]
 
 
 def main() -> int:
     parser = argparse.ArgumentParser(description=__doc__, formatter_class=argparse.RawDescriptionHelpFormatter)
     parser.add_argument("bpfrec", metavar="BPFREC")
     parser.add_argument("megabytes", nargs="?", type=int, default=1024, metavar="MEGABYTES", help="1024 (default)")
+    parser.add_argument("--recordings", type=int, default=1, metavar="N", help="how many; 1 (default)")
     words = parser.parse_args()
-    with tempfile.TemporaryDirectory() as work:
-        found = [measure(os.path.abspath(words.bpfrec), Path(work), it, words.megabytes) for it in MOST_TIMES]
+    found = []
+    for length in MOST_TIMES:
+        with tempfile.TemporaryDirectory() as work:
+            bpfrec = os.path.abspath(words.bpfrec)
+            found.append(measure(bpfrec, Path(work), length, words.megabytes, words.recordings))
     return 0 if all(found) else 1
 
 

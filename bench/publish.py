@@ -8,7 +8,8 @@ with --fast to bpfrec receive on this machine: frames a second by the clock and 
 plays a recorder: it writes a packet of 10 frames each 50 ms into a recording that goes on, which publish follows, and
 prints how long after each write the datagram came here.
 
-Goal: 300,000 frames a second of 300 bytes of publish's processor, its stream's with it; the status is 1 where it is missed.
+Goals: 300,000 frames a second of 300 bytes of publish's processor, its stream's with it, and 99 of 100 frames here within
+25 ms of the packet's write; the status is 1 where one is missed.
 It needs bin/bpfrec (make build). Files go to TMPDIR.
 """
 import argparse
@@ -32,7 +33,7 @@ from ground import listening, published, write_facts
 from support import BPFREC, KEEPS_ALL, PUBLISH, RECEIVE
 from whole_file import Origin, Setup
 
-GOAL, TICKS_A_FRAME, PATIENCE = 300_000, 100, 120
+GOAL, MOST_LATE, TICKS_A_FRAME, PATIENCE = 300_000, 0.025, 100, 120
 SETUP = Setup((Origin(0, 1_764_590_400_250_000_000),), channels={1: ("eth0", 0)})
 
 
@@ -76,8 +77,8 @@ def time_rate(work: Path, frames: int, length: int) -> float:
     return frames / sending
 
 
-def time_latency(work: Path, packets: int) -> None:
-    """Prints how long after a packet was written its datagram came."""
+def time_latency(work: Path, packets: int) -> float:
+    """Prints how long after a packet was written its datagram came: in seconds, that of 99 of 100 at most."""
     made = DrawnRecording()
     made.add_program(1, 0, 0, drawn_insns(random.Random(1)))
     path, late = work / "b.ch11", []
@@ -99,6 +100,7 @@ def time_latency(work: Path, packets: int) -> None:
         print(f"played recorder: {published(ended(sender)[0])}")
     hundredths = statistics.quantiles(late, n=100)
     print(f"a packet is sent after {1e3 * hundredths[49]:.1f} ms (median), 99 of 100 within {1e3 * hundredths[98]:.1f}")
+    return hundredths[98]
 
 
 def arrived(station: socket.socket, counter: int) -> float:
@@ -117,9 +119,9 @@ def main() -> int:
     words = parser.parse_args()
     with tempfile.TemporaryDirectory() as folder:
         rate = time_rate(Path(folder), words.frames, words.length)
-        time_latency(Path(folder), words.packets)
+        late = time_latency(Path(folder), words.packets)
     print(f"load: {os.getloadavg()[0]:.1f} on {os.cpu_count()} processors")
-    return 0 if rate >= GOAL else 1
+    return 0 if rate >= GOAL and late <= MOST_LATE else 1
 
 
 if __name__ == "__main__":

@@ -100,10 +100,11 @@ class Station(threading.Thread):
 
 
 class Relay(Station):
-    """Sends on what comes to a port, but for what it loses; some come twice, and some after those behind them."""
+    """Sends on what comes to a port, but for what it loses, where it does; some come twice, and some after those behind
+    them."""
 
-    def __init__(self, draw: random.Random, port: int, chance: float) -> None:
-        self.draw, self.to, self.chance = draw, ("127.0.0.1", port), chance
+    def __init__(self, draw: random.Random, port: int, chance: float, loses: bool = True) -> None:
+        self.draw, self.to, self.chance, self.loses = draw, ("127.0.0.1", port), chance, loses
         self.out = socket.socket(socket.AF_INET, socket.SOCK_DGRAM)
         self.held: list[bytes] = []
         self.lost = self.doubled = self.came = 0
@@ -115,7 +116,7 @@ class Relay(Station):
         # The first is the setup record, without which nothing is written.
         if self.came == 1 or what >= 3:
             self.send(datagram)
-        elif what < 1:
+        elif what < 1 and self.loses:
             self.lost += 1
         elif what < 2:
             self.doubled += 1

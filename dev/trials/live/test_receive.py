@@ -45,6 +45,21 @@ def test_what_a_network_loses_doubles_and_exchanges_is_counted(work: Path, seed:
     judge("and can be read", outcome(BPFREC, "list", receiver.out).returncode == 0)
 
 
+@pytest.mark.parametrize("seed", [1, 2, 3])
+def test_what_is_doubled_and_exchanged_alone_costs_nothing(work: Path, seed: int) -> None:
+    """Where a third of all comes twice or out of order, the file is the stream, byte for byte."""
+    path, port = drawn_flight(work, seed), free_port()
+    receiver = Receiver(work, "ground.ch10", f"127.0.0.1:{port}")
+    relay = Relay(random.Random(seed), port, 0.1, loses=False)
+    counts = send(path, relay.address, "--datagram", 200)
+    wait_for("all has come to the relay", lambda: relay.came == counts.datagrams)
+    relay.close()
+    status, received = receiver.ended()
+    judge("nothing is lost", (status, received.lost, received.doubled) == (0, 0, relay.doubled), received)
+    judge("some came twice", relay.doubled > 2, relay.doubled)
+    judge("the stream", receiver.out.read_bytes() == bytes(stream_of(path).file.data))
+
+
 def test_what_came_ahead_of_the_end_is_written(work: Path) -> None:
     """Also where receive has read none of it yet."""
     path, port = drawn_flight(work, 6), free_port()

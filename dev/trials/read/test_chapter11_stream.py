@@ -9,6 +9,7 @@ import time
 from pathlib import Path
 
 import pytest
+from bpfrec.formats.facts import tick_of
 from drawn_recording import DrawnRecording
 from frames import COMPUTER, FRAMES, body_of, packet_of
 from packets import packets_in
@@ -104,13 +105,20 @@ def test_frames_at_each_end(work: Path) -> None:
     judge("nothing", judge_stream(work, "empty", b"").startswith("packets 0 records 0 times 0 late 0 other 0"))
 
 
-@pytest.mark.parametrize("seed", range(4))
+@pytest.mark.parametrize("seed", range(12))
 def test_a_reader_approves_it(work: Path, seed: int) -> None:
+    """Which shares no code with either writer: nothing is wrong, and each channel's frames have their own times."""
     draw = random.Random(seed)
-    made = drawn(draw, [1, 2, 3], 0, 30, 0)
+    made = drawn(draw, [1, 2, 3], 0, 30, draw.choice([0, SECOND, 5 * SECOND]))
     done = streamed(work, bytes(made.data), NOW)
-    opinion = opinion_of(done.stdout)
-    judge("by a second opinion", opinion.is_right, opinion.lines[:3])
+    opinion = opinion_of(done.stdout, shows_frames=True)
+    judge("by a second opinion", opinion.is_right, opinion.lines[-5:])
+    found = [it.split() for it in opinion.lines if it.split()[0].endswith("Z")]
+    for channel in CHANNELS:
+        rows = [(time, length) for time, number, length, *_ in found if number == str(channel)]
+        frames = made.channel(channel).frames
+        wanted = [(tick_of(ORIGIN + counter * 100), str(length)) for counter, _, length in frames]
+        judge_quietly(f"the frames of channel {channel}", rows == wanted, (rows[:3], wanted[:3]))
 
 
 # ---- as it grows

@@ -15,6 +15,7 @@ import pytest
 from frames import feed_of
 from packets import packets_in
 from recorder import LISTINGS, begin, write_settings
+from second_opinion import opinion_of
 from stream_trials import NOW, SECOND, expected, settings, streamed
 from streamed import Stream
 from support import BPFREC, judge, judge_quietly, present
@@ -117,6 +118,8 @@ def test_raced_recordings_while_they_grow(work: Path, seed: int) -> None:
     judge_quietly("all of it was given", given == data and len(sent) > 20, (len(given), len(data)))
     judge("as it ends", [status, line] == wanted and " times 1 " not in line, (status, line, wanted))
     judge("the list of the definition", bytes(got) == out, (len(got), len(out)))
+    opinion = opinion_of(bytes(got))
+    judge_quietly("a second opinion approves it", opinion.is_right, opinion.lines[-5:])
     judge_growth(data, sent)
     judge_cuts(work, data, out, random.Random(seed))
 
