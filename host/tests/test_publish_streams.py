@@ -21,7 +21,7 @@ from frames import COMPUTER, FRAMES, body_of
 from ground import packets_in, write_facts
 from support import judge, judge_quietly
 from whole_file import Origin, Setup
-from whole_file_parts import ORIGIN, parts_of, recorded, sample_recording
+from whole_file_parts import ORIGIN, parts_of, recorded, sample, sample_recording
 
 # Gives back what it is given, keeps SETUP, and says what it did.
 PLAYED = """#!/bin/sh
@@ -313,3 +313,11 @@ def test_one_that_has_ended_goes_out_at_the_pace_of_its_counters(work: Path, mon
     found = [recording.due_in(it) for it in recording.waiting]
     judge("one second", [round(it, 6) for it in found] == [0, 0, 1, 0], found)
     judge("what is left is counted", recording.leave_rest() == 4)
+
+
+@pytest.mark.parametrize("origin", [None, "0"])
+def test_a_whole_file_is_refused_by_its_name(work: Path, origin: Optional[str]) -> None:
+    path = work / "ground.ch10"
+    path.write_bytes(sample())
+    with pytest.raises(Refused, match="ground.ch10: it is a whole Chapter 11 file, and a recording is published"):
+        Recording(str(path), print, Asked(origin)).begin(False, lambda: False)

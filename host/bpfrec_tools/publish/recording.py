@@ -61,7 +61,10 @@ class Recording(Growing):
         self.judge_times()
 
     def judge_times(self) -> None:
-        """Refuses a recording of which nobody says when it was recorded; a scale that nobody knows is reported."""
+        """Refuses a whole file, and a recording of which nobody says when it was recorded; a scale that nobody knows is
+        reported."""
+        if self.begins_whole():
+            raise Refused(f"{self.path}: it is a whole Chapter 11 file, and a recording is published")
         if self.known and self.asked.origin:
             beside = facts_path(self.path)
             raise Refused(f"{beside} has the origins, and --origin is for a recording without facts")
