@@ -111,15 +111,6 @@ def refusals(work: Path) -> list[tuple[list, int, str]]:
         (["rx0", "rx1"], 2, "rx0 is an interface: SETTINGS, OUT, then interfaces"),
         (["nosuch.toml", "OUT", "rx0=1"], 3, "nosuch.toml: no such file"),
         (["nosuch.toml"], 3, "nosuch.toml: no such file"),
-        ([unquoted(work)], 2, f"{work}/unquoted.toml: settings 1 Syntax: {UNQUOTED}"),
-        (["o.pcap", "rx0"], 2, f"o.pcap: {NO_CAPTURE}"),
-        ([settings, "o.pcapng", "rx0=1"], 2, f"o.pcapng: {NO_CAPTURE}"),
-        ([settings, one, "rx0=1"], 2, f"{settings}:8: channel 2: {UNFED}"),
-        (
-            [settings, "--force", settings.parent / "all", "rx0=1", "rx1=2"],
-            3,
-            f"{work}/all: it is {work}/all itself, {READ}",
-        ),
         (["private", "OUT"], 3, "private: it is a directory"),
         (["--require-clock", "1", "sec", "OUT", "rx0"], 3, "sec: no such file"),
         (["/no/o.ch11", "rx0"], 3, "/no/o.ch11: no such folder"),
@@ -144,8 +135,25 @@ def refusals(work: Path) -> list[tuple[list, int, str]]:
     ]
 
 
+def refusals_of_files(work: Path) -> list[tuple[list, int, str]]:
+    """The same of files that are none of a recording, or that the run reads."""
+    settings = settings_of(work)
+    one = f"{work}/o.ch11"
+    return [
+        ([unquoted(work)], 2, f"{work}/unquoted.toml: settings 1 Syntax: {UNQUOTED}"),
+        (["o.pcap", "rx0"], 2, f"o.pcap: {NO_CAPTURE}"),
+        ([settings, "o.pcapng", "rx0=1"], 2, f"o.pcapng: {NO_CAPTURE}"),
+        ([settings, one, "rx0=1"], 2, f"{settings}:8: channel 2: {UNFED}"),
+        (
+            [settings, "--force", settings.parent / "all", "rx0=1", "rx1=2"],
+            3,
+            f"{work}/all: it is {work}/all itself, {READ}",
+        ),
+    ]
+
+
 def test_what_is_wrong_with_the_words_is_said_with_what_they_should_be(work: Path) -> None:
-    cases = refusals(work)
+    cases = [*refusals(work), *refusals_of_files(work)]
     (work / "told").touch()
     for words, status, told in cases:
         judge_refused(work, words, status, told)
