@@ -31,7 +31,7 @@ from bpfrec_tools.cli.streams import (
     refuse_twice,
 )
 from bpfrec_tools.export.merging import Capture, Interface, Sliced, interfaces_of
-from bpfrec_tools.export.times import NOTHING_BETWEEN, dated, ranges_of, refuse_outside
+from bpfrec_tools.export.times import NOTHING_BETWEEN, dated, ranges_of, refuse_outside, refuse_swapped
 
 # Why a name names no channel.
 NO_NAMES = "no facts beside it, so --channel takes numbers, as 1"
@@ -83,6 +83,7 @@ def recordings_at(given: argparse.Namespace) -> list[Sliced]:
     indexes = [index_of(path) for path in given.recordings]
     opened = [Recording(it, times_of(it)) for it in indexes]
     since, until = dated(given.since, given.until, opened)
+    refuse_swapped(given.since, given.until, since, opened)
     if since and until and since.is_absolute == until.is_absolute and until <= since:
         raise Refused(NOTHING_BETWEEN)
     found = [(it, ranges_of(it, since, until)) for it in opened]

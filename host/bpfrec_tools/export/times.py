@@ -95,16 +95,14 @@ def dated(since: Asked, until: Asked, recordings: list[Recording]) -> tuple[Opti
     least = beginning_of(first) if begin is None else begin.nanoseconds
     if begin is not None and not begin.is_absolute:
         least += first.times.origins[-1].moment
-    if begin is not None:
-        refuse_swapped(since, until, begin, recordings)
     return begin, on_day(until, max(least, beginning_of(first)))
 
 
-def refuse_swapped(since: Asked, until: Asked, begin: Time, recordings: list[Recording]) -> None:
+def refuse_swapped(since: Asked, until: Asked, begin: Optional[Time], recordings: list[Recording]) -> None:
     """Refuses times of day of which the second is ahead of the first, where all frames are of the day of the first."""
     are_turned = isinstance(since, TimeOfDay) and isinstance(until, TimeOfDay) and until <= since
     spans = [(it, found) for it in recordings if are_turned and (found := counters_of(it))]
-    if spans and max(moment_in(it, found.high) for it, found in spans) < first_from(0, begin.nanoseconds):
+    if begin and spans and max(moment_in(it, found.high) for it, found in spans) < first_from(0, begin.nanoseconds):
         raise Refused(NOTHING_BETWEEN)
 
 
