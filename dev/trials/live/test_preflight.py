@@ -49,6 +49,13 @@ def test_an_interface_that_joins_frames_is_noted(work: Path) -> None:
     judge("and that has no carrier", any(it.startswith("jx0: note: it has no carrier") for it in notes), notes)
 
 
+def test_a_channel_that_nothing_feeds_is_named_with_what_it_lacks(work: Path) -> None:
+    settings = settings_of(work)
+    status, faults, notes = told(settings, work / "out.ch11", "rx0=1")
+    judge("a fault", (status, faults) == (1, [f"{settings}:7: channel 2: settings 3 Missing feed"]), faults)
+    judge("and a note", f"{settings}:8: channel 2: note: no interface is this channel, as eth0=2" in notes, notes)
+
+
 def cases(work: Path) -> list[tuple[list, str]]:
     settings = settings_of(work)
     (work / "there.ch11").write_bytes(b"kept")

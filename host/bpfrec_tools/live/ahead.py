@@ -78,7 +78,12 @@ def lack_of(channel: Channel, known: list[Channel], routed: Container[object]) -
     if any(it.id() == channel.id() for it in known):
         return f"settings 6 SameChannel {channel.id()}"
     is_fed = "feed" in channel.table or channel.id() in routed
-    return "" if is_fed else f"settings 3 Missing feed: no interface is this channel, as eth0={channel.id()}"
+    return "" if is_fed else f"settings 3 Missing feed: {no_interface(channel)}"
+
+
+def no_interface(channel: Channel) -> str:
+    """What is said of a channel that no interface is, and that has no feed."""
+    return f"no interface is this channel, as eth0={channel.id()}"
 
 
 def refuse_inputs(given: Arguments, channels: Iterable[Channel]) -> None:

@@ -32,7 +32,7 @@ from bpfrec_tools.live.status import BadEndpoint, NoServer, endpoint_in
 from bpfrec_tools.live.targets import Target
 from bpfrec_tools.preflight.flights import UNKNOWN, interfaces_of, judge_flight, refusal_of, tell_flight
 from bpfrec_tools.preflight.inputs import judge_settings
-from bpfrec_tools.preflight.keys import read_settings
+from bpfrec_tools.preflight.keys import place_in, read_settings
 from bpfrec_tools.preflight.output import available_memory, judge_out
 from bpfrec_tools.preflight.report import CAPTURE, LIVE, Report
 
@@ -67,6 +67,8 @@ def judge_live(arguments: list[str], report: Report) -> None:
     piped = {None, *(it.channel for it in given.routes)}
     if settings:
         with_pipes(without_flight(settings), piped)
+        for channel in (it for it in settings.channels if "feed" not in it.table and it.id()):
+            report.note(place_in(settings, channel, "id"), ahead.no_interface(channel))
     is_right = not report.faults
     judge_refusals(given, settings, report)
     for what in ahead.apart(given):
