@@ -17,7 +17,8 @@ from ground import Receiver, drawn_flight, free_port, rows_in, rows_of, send, st
 from packets import packets_in
 from recordings import has_open
 from support import EXPORT, FOLLOW, judge, judge_quietly, outcome, wait_for
-from whole_file import SETUP
+from whole_file import SETUP, TIME
+from whole_file_parts import ORIGIN
 
 pytestmark = [pytest.mark.wanted("bin/bpfrec", "ip", "tshark"), pytest.mark.usefixtures("namespace")]
 SECONDS = 60
@@ -190,3 +191,20 @@ def test_a_repeated_setup_record_that_is_damaged_costs_no_name(work: Path, seed:
     lines = [f"bpfrec follow: {path}: the setup record at byte {at} can't be read"]
     found = (followed.ended(), followed.told()[:-1], followed.rows())
     judge("its line, and all frames", found == (1, lines, [it for it in rows if it.startswith(f"{name}\t")]), found[:2])
+
+
+def test_a_file_without_time_packets_has_times_since_counter_0(work: Path) -> None:
+    """And a line says so."""
+    path, rows = ground_file(work, 1)
+    data = path.read_bytes()
+    packets = [*packets_in(data)]
+    ends = [*(it[0] for it in packets[1:]), len(data)]
+    path.write_bytes(b"".join(data[it[0] : end] for it, end in zip(packets, ends) if it[2] != TIME))
+    followed = Followed(work, path)
+    line = "no time packet ahead of its first frames can be read, so times are those since counter 0"
+    found = (followed.ended(), followed.told()[:-1])
+    judge("a line", found == (0, [f"bpfrec follow: {path}: {line}"]), found)
+    split = [[it.split("\t") for it in shown] for shown in (followed.rows(), rows)]
+    moments = [[int(time.replace(".", "")) for _, time, _ in shown] for shown in split]
+    judge("times", moments[0] == [it - ORIGIN // 100 * 100 for it in moments[1]], moments[0][:2])
+    judge("names", [it[::2] for it in split[0]] == [it[::2] for it in split[1]])
