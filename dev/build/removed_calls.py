@@ -3,9 +3,10 @@
 
 A call whose value isn't used, as one that prints, counts, closes or sets, may be missing though each part is tested. All
 such calls of host/bpfrec_tools are found in its text; one after the other is replaced by nothing, in a copy, and the
-tests of that tool run: first those of parts, and where these pass its trials. PATH names files and folders below
-host/bpfrec_tools, as publish or live/kept, or a line of one, as publish/command.py:49; without one all are taken. Each
-call that no test misses is named with its line. The last line is `N passed, N failed`.
+tests of that tool run: first those of parts, and where these pass its trials, all of which have to pass with all calls.
+PATH names files and folders below host/bpfrec_tools, as publish or live/kept, or a line of one, as
+publish/command.py:49; without one all are taken. Each call that no test misses is named with its line. The last line is
+`N passed, N failed`.
 """
 import argparse
 import ast
@@ -18,12 +19,14 @@ from pathlib import Path
 from typing import NamedTuple, Optional
 
 from lanes import minutes
-from mutants import NOT_REFUSED, PYTHON, REFUSED, commit, copied, first_fault, own_program, plain_copy, ran
+from mutants import NOT_ENDED, NOT_REFUSED, PYTHON, REFUSED, commit, copied, first_fault, own_program, plain_copy, ran
 from repository import ROOT
 
 TOOLS = Path("host/bpfrec_tools")
 # For how many seconds a test may run here; one that doesn't end has failed.
 PATIENCE = 100
+# The status of pytest where a test has failed.
+HAS_FAILED = 1
 LIVE_UNITS = "host/tests/test_live_*.py"
 # The tests of a folder: those of parts, and trials. Of several that a file is in, the longest counts.
 ROWS: dict[str, tuple[list[str], list[str]]] = {
@@ -72,7 +75,7 @@ ROWS: dict[str, tuple[list[str], list[str]]] = {
         ["dev/trials/live/test_receive.py", "dev/trials/live/test_receive_shown.py", "dev/trials/live/test_publish.py"],
     ),
     "salvage": (
-        ["host/tests/test_tools.py"],
+        ["host/tests/test_parts_called.py"],
         [
             "dev/trials/read/test_info_damage.py",
             "dev/trials/tools/test_overwriting.py",
@@ -127,12 +130,25 @@ def paths_of(patterns: list[str]) -> list[str]:
     return [str(it.relative_to(ROOT)) for pattern in patterns for it in sorted(ROOT.glob(pattern))]
 
 
-def fault_of(top: Path, patterns: list[str]) -> Optional[str]:
-    """What the first test that fails says; None where all pass."""
+def fault_of(top: Path, patterns: tuple[str, ...]) -> Optional[str]:
+    """What the first test that fails says; None where all pass. A ValueError says why they can't be run."""
     programs = {it.upper(): str(own_program(it)) for it in ("bpfrec", "capture")}
-    words = ["-q", "-x", "-p", "no:cacheprovider", "-o", f"timeout={PATIENCE}", *paths_of(patterns)]
+    words = ["-q", "-x", "-p", "no:cacheprovider", "-o", f"timeout={PATIENCE}", *paths_of([*patterns])]
     done = ran([PYTHON, "-m", "pytest", *words], top, **programs)
+    if done.returncode not in (0, HAS_FAILED, *NOT_ENDED):
+        raise ValueError(first_fault(done.stdout))
     return first_fault(done.stdout) if done.returncode else None
+
+
+def fault_without(patterns: tuple[str, ...]) -> Optional[str]:
+    """What fails of these tests where nothing is taken out, twice: some judge times, and others run beside them."""
+    found: Optional[str] = None
+    for _ in range(2):
+        with tempfile.TemporaryDirectory(prefix="bpfrec-plain-") as top:
+            found = fault_of(copied(Path(top), {}), patterns)
+        if found is None:
+            break
+    return found
 
 
 def judged(removed: Removed, until: float, has_trials: bool) -> Optional[str]:
@@ -140,15 +156,20 @@ def judged(removed: Removed, until: float, has_trials: bool) -> Optional[str]:
     if time.monotonic() > until:
         return None
     began, said = time.monotonic(), None
-    tests, trials = tests_of(removed.path)
     with tempfile.TemporaryDirectory(prefix="bpfrec-removed-") as top:
         copied(Path(top), {removed.path: removed.text})
-        for patterns in (tests, trials if has_trials else []):
-            said = said or (fault_of(Path(top), patterns) if patterns else None)
+        for patterns in rows_of(removed, has_trials):
+            said = said or fault_of(Path(top), patterns)
     verdict = REFUSED if said else NOT_REFUSED
     place = f"{removed.path}:{removed.line}: {removed.call}"
     print(f"{place}: {verdict}, in {minutes(time.monotonic() - began)}: {said or 'all pass'}", flush=True)
     return verdict
+
+
+def rows_of(removed: Removed, has_trials: bool) -> list[tuple[str, ...]]:
+    """The tests that are run without a call, and the trials."""
+    tests, trials = tests_of(removed.path)
+    return [tuple(it) for it in (tests, trials if has_trials else []) if it]
 
 
 def main() -> int:
@@ -163,8 +184,13 @@ def main() -> int:
     if given.seconds:
         random.Random(given.seed or commit()).shuffle(chosen)
     plain_copy()
-    until = time.monotonic() + (given.seconds or float("inf"))
+    rows = sorted({row for removed in chosen for row in rows_of(removed, not given.no_trials)})
     with ThreadPoolExecutor(given.processes) as pool:
+        wrong = [f"{' '.join(row)}: {fault}" for row, fault in zip(rows, pool.map(fault_without, rows)) if fault]
+        if wrong:
+            print("\n".join(f"they fail with all calls: {it}" for it in wrong))
+            return 1
+        until = time.monotonic() + (given.seconds or float("inf"))
         verdicts = list(pool.map(lambda removed: judged(removed, until, not given.no_trials), chosen))
     refused, left = verdicts.count(REFUSED), verdicts.count(NOT_REFUSED)
     print(f"{refused} passed, {left} failed")

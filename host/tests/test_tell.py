@@ -129,3 +129,17 @@ def test_an_empty_filter_is_refused() -> None:
     done = outcome(TOOLS / "tell", "flight.ch11", "set", "1", "")
     said = (2, "bpfrec tell: FILTER is empty; all keeps all frames\n")
     judge("it opens no channel", (done.returncode, done.stderr) == said, done)
+
+
+def test_a_line_feed_in_a_line_is_refused() -> None:
+    done = outcome(TOOLS / "tell", "flight.ch11", "mark", "a\nstop")
+    said = (2, "bpfrec tell: LINE has a line feed, and so it is more than one\n")
+    judge("nothing is sent", (done.returncode, done.stderr) == said, done)
+
+
+def test_a_run_that_does_not_answer_is_waited_for_no_longer_than_is_said(bound: Path) -> None:
+    with socket.socket(socket.AF_UNIX) as silent:
+        silent.bind("silent.control")
+        silent.listen()
+        done = outcome(TOOLS / "tell", "--wait=0.2", "silent.control", "status", cwd=bound, seconds=10)
+    judge("it says so", (done.returncode, done.stderr) == (3, "bpfrec tell: silent.control: it doesn't answer\n"), done)
