@@ -1,11 +1,14 @@
 """Tries that live calls its parts: its publishers, which end with the run, and the pipe of its lines."""
 
 import signal
+import socket
 import time
 from collections.abc import Callable
+from pathlib import Path
 from typing import Any, cast
 
 import pytest
+from bpfrec_tools.live.control import sockets
 from bpfrec_tools.live.control.changes import Change, Pipe
 from bpfrec_tools.live.reports.publishers import Publishers
 from bpfrec_tools.live.targets import target_of
@@ -82,3 +85,45 @@ def test_a_pipe_of_lines_that_is_closed_ends_for_its_reader() -> None:
     pipe.close()
     with open(pipe.reader, "rb") as lines:
         judge("and its reader sees its end", lines.read() == b"set 1 all\n")
+
+
+class Watched:
+    """A loop that notes which descriptors are read."""
+
+    def __init__(self) -> None:
+        self.read: set[int] = set()
+
+    def on_read(self, descriptor: int, call: object) -> None:
+        (self.read.add if call else self.read.discard)(descriptor)
+
+    def on_room(self, descriptor: int, call: object) -> None:
+        pass
+
+
+def test_a_last_line_without_a_line_feed_is_taken_and_its_client_is_read_no_more(work: Path) -> None:
+    lines: list[bytes] = []
+    loop = Watched()
+
+    def take(line: bytes, answer: Callable[[str, bool], None]) -> None:
+        lines.append(line)
+        answer("", True)
+
+    made = sockets.ControlSocket(str(work / "c"), cast(Any, loop), lambda: True, cast(Any, take))
+    with socket.socket(socket.AF_UNIX) as client:
+        client.connect(str(work / "c"))
+        made.accept()
+        made.read()
+        descriptor = made.clients[0].connection.fileno()
+        judge("both are read", loop.read == {made.listener.fileno(), descriptor}, loop.read)
+        client.sendall(b"mark one\nmark two")
+        client.shutdown(socket.SHUT_WR)
+        while not made.clients[0].has_ended:
+            made.read_from(made.clients[0])
+        while made.take_next():
+            pass
+        judge("both lines", lines == [b"mark one", b"mark two"], lines)
+        judge("it has left", made.clients == [] and loop.read == {made.listener.fileno()}, loop.read)
+        with client.makefile("rb") as answers:
+            judge("with both answers", answers.read() == b"done\n\n" * 2)
+    made.close()
+    judge("and nobody listens", loop.read == set() and not (work / "c").exists(), loop.read)
