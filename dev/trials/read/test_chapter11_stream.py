@@ -22,8 +22,6 @@ from whole_file import Origin, Setup
 from whole_file_trials import setup_text
 
 pytestmark = pytest.mark.wanted("bin/bpfrec")
-SECOND = 10_000_000
-ORIGIN = 1_764_590_400_250_000_123
 YEAR_4000 = 64_060_588_800 * 10**9
 LAST_COUNTER = 2**48 - 1
 
