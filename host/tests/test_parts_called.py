@@ -86,6 +86,9 @@ class Unknown(Growing):
     def has_ended(self) -> bool:
         return False
 
+    def begins_whole(self) -> bool:
+        return False
+
 
 def test_facts_are_waited_for_without_a_loop_that_is_busy(monkeypatch: pytest.MonkeyPatch) -> None:
     now, waiting = [0.0], Unknown()
