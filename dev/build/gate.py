@@ -10,8 +10,11 @@ on; --edits tries all. What was refused is written there, also where the run fai
 dev/trials/long/check_memory.py refuses memory and threads to the program that was built. The last line is
 `N passed, M failed`, of all that was proved, run and tried.
 """
+from __future__ import annotations
+
 import argparse
 import contextlib
+import signal
 import subprocess
 import sys
 import tempfile
@@ -56,6 +59,14 @@ def folder(kept: Path | None) -> Iterator[Path]:
         yield Path(top)
 
 
+def run_there(words: list[Path | str]) -> int:
+    """Runs the copy's own script, which ends well where this one is to end: its status."""
+    signal.signal(signal.SIGINT, signal.SIG_IGN)  # a terminal sends it to the copy's run too
+    with subprocess.Popen(words) as run:
+        signal.signal(signal.SIGTERM, lambda *_: run.terminate())
+        return run.wait()
+
+
 def main() -> int:
     parser = argparse.ArgumentParser(description=__doc__, formatter_class=argparse.RawDescriptionHelpFormatter)
     where = parser.add_mutually_exclusive_group()
@@ -70,7 +81,7 @@ def main() -> int:
     before = {it: sums_of(it) for it in libraries()}
     with folder(words.into) as top:
         copy_to(top)
-        status = subprocess.run([top / "dev/build/gate.py", "--here", *["--edits"] * words.edits]).returncode
+        status = run_there([top / "dev/build/gate.py", "--here", *["--edits"] * words.edits])
         found = seen(top / SEEN.relative_to(ROOT))
     forget()
     write_seen({it: sums for it, sums in before.items() if found.get(it) == sums == sums_of(it)})

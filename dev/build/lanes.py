@@ -1,5 +1,6 @@
 """How steps run side by side on the processors, and what a run says of itself meanwhile."""
 import os
+import signal
 import sys
 import time
 from collections.abc import Callable, Sequence
@@ -92,6 +93,9 @@ def in_lanes(steps: list[Step], every: Sequence[str] = (), until: Optional[float
     an earlier run did are passed over, but for those of the kinds `every`. Of those that may be left none is
     begun that isn't likely to end when the clock is at `until`. Returns those that failed; what waits for one
     isn't done."""
+    # A shell has what it starts in the background ignore SIGINT: here both end the run, and keep what was done.
+    for it in (signal.SIGINT, signal.SIGTERM):
+        signal.signal(it, signal.default_int_handler)
     LOGS.mkdir(parents=True, exist_ok=True)
     steps = [it for it in steps if it.kind in every or not it.is_done()]
     by_key = ordered(steps)
