@@ -84,6 +84,7 @@ def measure(bpfrec: str, work: Path, length: int, megabytes: int, recordings: in
     memory = [memory_of(runs[it]) for it in ("chapter11", "--stream")]
     print(f"chapter11 takes {longer:.2f} times as long as cp, and {memory[0]:.1f} MB; --stream {memory[1]:.1f} MB")
     print(f"load: {os.getloadavg()[0]:.1f} on {os.cpu_count()} processors", flush=True)
+    # The goals are those of one recording.
     return recordings > 1 or longer <= MOST_TIMES[length]
 
 

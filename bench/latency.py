@@ -225,13 +225,14 @@ def tell_disk(work: Path, seconds: float) -> bool:
     return is_met
 
 
-def tell_seen(work: Path, name: str, seconds: float) -> bool:
-    ways = {"one": ["rx0"]} | ({"two, one silent": ["rx0", "rx1"]} if name == "sent" else {})
+def measure_until_seen(work: Path, part: str, seconds: float) -> bool:
+    """Prints how long it takes until a frame is shown or sent: whether the goal is met."""
+    ways = {"one": ["rx0"]} | ({"two, one silent": ["rx0", "rx1"]} if part == "sent" else {})
     print("| Frames | Channels | Half, s | 99 of 100 | All | Goal |\n|---|---|---|---|---|---|")
     is_met = True
     for rate in RATES:
         for channels, names in ways.items():
-            found = shown(work, rate, seconds) if name == "shown" else sent(work, rate, seconds, *names)
+            found = shown(work, rate, seconds) if part == "shown" else sent(work, rate, seconds, *names)
             hundredths = statistics.quantiles(found, n=100, method="inclusive")
             is_met &= max(found) <= SEEN_GOAL
             cells = f"{hundredths[49]:.3f} | {hundredths[98]:.3f} | {max(found):.3f} | {SEEN_GOAL}"
@@ -258,7 +259,7 @@ def tell(part: str, work: Path, seconds: float) -> bool:
     """Prints the table of a part: whether its goals are met."""
     if part == "disk":
         return tell_disk(work, seconds)
-    return tell_idle(work) if part == "idle" else tell_seen(work, part, seconds)
+    return tell_idle(work) if part == "idle" else measure_until_seen(work, part, seconds)
 
 
 def main() -> int:

@@ -131,6 +131,7 @@ const TIMES: [(Noted, u64, i128); 9] = [
 fn a_counter_has_its_time_by_the_origins(rt: HostRuntime) -> Result<(), Fail> {
     for &(noted, counter, time) in &TIMES {
         let clock = clock_of(rt.alloc(), noted)?;
+        // which `Clock::time` requires
         if counter > LAST_COUNTER {
             return Err(Fail::from("a counter of more than 48 bits"));
         }
@@ -139,8 +140,8 @@ fn a_counter_has_its_time_by_the_origins(rt: HostRuntime) -> Result<(), Fail> {
     Ok(())
 }
 
-/// Origins, a recording's least counter, and its first time packets, four at most: the moment and the
-/// tick of each.
+/// Origins, a recording's least counter, and its first time packets, four at most: the moment of each, in
+/// hundredths of a second since 1970, and its tick of 100 ns.
 const WALKS: [(Noted, u64, &[(i64, u64)]); 11] = [
     // counter 0 is 123 ns behind 12:00:00.25, which so has no tick
     (

@@ -58,6 +58,7 @@ def test_a_reader_that_stands_still_holds_up_no_second_signal(work: Path) -> Non
     out = pipe_at(work, "out.pipe")
     reads = os.open(out, os.O_RDONLY | os.O_NONBLOCK)
     running = begin(work, out, "--quiet")
+    # More than the pipe holds.
     send_together(0, 20 * COUNT)
     time.sleep(0.5)
     os.kill(running.process.pid, signal.SIGTERM)

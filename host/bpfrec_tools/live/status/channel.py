@@ -124,8 +124,8 @@ class Channel:
             self.pause = None
 
     def spread(self, seconds: int) -> None:
-        """Behind a pause of the counts, whose last second has the rates of all: each of so many seconds gets them, and
-        the mean of what was kept."""
+        """After a pause of the counts the last second has the rates of the whole pause: each of so many seconds gets them,
+        and the mean of what was kept."""
         last, at = self.history[-1], range(max(len(self.history) - seconds, 0), len(self.history))
         frames, size = (sum(self.history[it][field] or 0 for it in at) / len(at) for field in KEPT)
         for second in at:
