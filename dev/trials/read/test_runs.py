@@ -160,6 +160,17 @@ def test_info_and_a_capture_say_which_is_missing_in_the_middle(flight: Path, wor
     judge("of the last alone nothing", outcome(EXPORT, last, work / "last.pcapng").stderr == "")
 
 
+def test_a_recording_without_its_facts_is_not_missing(flight: Path, work: Path) -> None:
+    _, middle, last = parts_of(flight)
+    for path in (middle, last):
+        facts = Path(f"{path}.json").read_bytes()
+        Path(f"{path}.json").unlink()
+        judge(f"info without facts of {path.name}", "missing" not in run(INFO, flight), run(INFO, flight))
+        done = outcome(EXPORT, middle if path == last else flight, last, work / f"{path.name}.pcapng")
+        judge("export", "missing" not in done.stderr, done)
+        Path(f"{path}.json").write_bytes(facts)
+
+
 def test_follow_and_python_take_it(flight: Path) -> None:
     with bpfrec.open(flight) as recording:
         counters = [it.counter for it in recording]

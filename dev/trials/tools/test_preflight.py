@@ -128,6 +128,20 @@ def test_reserved_speeds_are_noted(folder: Path) -> None:
         judge(f"speed {speed}", (reserved.format(speed) in lines) == (speed > 4), lines)
 
 
+def test_a_full_disk_is_a_fault(folder: Path) -> None:
+    """Of an OUT that is new and of one that is there, whose own room isn't enough."""
+    (folder / "s.toml").write_text(GOOD)
+    with memory_disk(folder / "disk", "size=3m") as disk:
+        (disk / "old.ch11").write_bytes(bytes(10))
+        (disk / "full").write_bytes(bytes(free_on(disk)))
+        for name, told in {"new.ch11": "", "old.ch11": "is there with 10 bytes, and will be emptied; "}.items():
+            done = preflight(folder, "s.toml", "--out", str(disk / name))
+            line = f"{disk / name}: file {disk / name}: {told}its disk is full: 0 B (0 bytes) are free\n"
+            judge(f"{name} is a fault", (done.returncode, line in done.stdout) == (1, True), done)
+        (disk / "full").unlink()
+        judge("none with room", preflight(folder, "s.toml", "--out", str(disk / "new.ch11")).returncode == 0)
+
+
 def available() -> int:
     """How many bytes of memory the kernel says are available."""
     found = re.search(r"^MemAvailable:\s*(\d+) kB$", Path("/proc/meminfo").read_text(), re.MULTILINE)

@@ -92,8 +92,11 @@ def missing_in(runs: list[list[Recorded]]) -> list[Missing]:
 
 def missing_among(recordings: Iterable[tuple[str, Optional[Facts]]], last: Container[str]) -> list[Missing]:
     """What is missing between recordings at these paths, by their facts, and behind those that are the last of a run."""
-    found = [Recorded(path, facts, Networks()) for path, facts in recordings if facts]
-    return [*missing_in(runs_of(found)), *missing_behind(found, last)]
+    given = list(recordings)
+    found = [Recorded(path, facts, Networks()) for path, facts in given if facts]
+    # One without facts is there all the same.
+    others = {os.path.basename(path) for path, facts in given if not facts}
+    return [it for it in [*missing_in(runs_of(found)), *missing_behind(found, last)] if it.names not in others]
 
 
 def missing_behind(recordings: list[Recorded], last: Container[str]) -> list[Missing]:

@@ -31,7 +31,7 @@ MORE = """\
 It prints `kept <n> of <m>`, on standard error if OUT is standard output: n of the m frames of IN that can be recorded. What
 can't be, as a frame that was cut short, a line on standard error counts.
 
-Status: 0 done, 1 the capture or the expression is refused, 2 the arguments are wrong, 3 a file can't be read or written, or
+Status: 0 done, 1 the capture is refused, 2 the arguments or the expression are wrong, 3 a file can't be read or written, or
 OUT exists, 4 out of memory.
 """
 # What live says of a capture that it refuses, beside why.

@@ -14,6 +14,9 @@ from bpfrec_tools.cli.files import file_id, is_locked
 from bpfrec_tools.cli.quantities import size_text
 from bpfrec_tools.preflight.report import Report, place
 
+# A disk with fewer bytes free is full: a recording has hardly begun where it ends.
+LEAST_ROOM = 1 << 20
+
 
 def judge_memory(settings: Settings, report: Report) -> None:
     """The buffers of all channels, beside the memory that is available."""
@@ -58,7 +61,7 @@ def judge_out(out: str, settings_file: str, channels: list[Channel], report: Rep
     elif not os.access(folder, os.W_OK | os.X_OK):
         report.fault(out, f"file {out}: forbidden")
     else:
-        report.note(out, free_room(folder))
+        judge_room(out, folder, "", report)
 
 
 def judge_old_out(out: str, folder: str, report: Report) -> None:
@@ -71,15 +74,20 @@ def judge_old_out(out: str, folder: str, report: Report) -> None:
     elif stat.S_ISREG(mode) and is_locked(out):
         report.fault(out, f"file {out}: another program writes it")
     elif stat.S_ISREG(mode):
-        report.note(out, f"is there with {os.path.getsize(out)} bytes, and will be emptied; {free_room(folder)}")
+        told = f"is there with {os.path.getsize(out)} bytes, and will be emptied; "
+        judge_room(out, folder, told, report)
     else:
         report.note(out, f"is a {'pipe' if stat.S_ISFIFO(mode) else 'device'} and was not opened")
 
 
-def free_room(folder: str) -> str:
-    """How much room the disk of a folder has."""
-    status = os.statvfs(folder)
-    return f"{bytes_text(status.f_bavail * status.f_frsize)} are free on its disk"
+def judge_room(out: str, folder: str, told: str, report: Report) -> None:
+    """How much room the disk of OUT has, which may be none; an OUT that is emptied makes its own."""
+    status, own = os.statvfs(folder), os.path.getsize(out) if told else 0
+    free = status.f_bavail * status.f_frsize
+    if free + own < LEAST_ROOM:
+        report.fault(out, f"file {out}: {told}its disk is full: {bytes_text(free)} are free")
+    else:
+        report.note(out, f"{told}{bytes_text(free)} are free on its disk")
 
 
 def bytes_text(count: int) -> str:
