@@ -342,9 +342,10 @@ def captured(path: Path, parts: list[bytes]) -> Captured:
     return Captured([it.text(COMMENT) for it in blocks_in(data) if it.kind == INTERFACE], lines_at_frames(data))
 
 
-def test_a_capture_of_what_is_received_has_the_filters(work: Path) -> None:
+def test_a_capture_of_what_is_received_has_the_filters(work: Path, capsys: pytest.CaptureFixture[str]) -> None:
     parts = [program_packet(1, 0), packet(1, [10]), program_packet(1, 1, (6, 0, 0, 7)), packet(1, [20, 30])]
     found = captured(work / "x.pcapng", parts)
     # As text, or as its listing where no program is built that prints it.
     judge("the first", len(found.comments) == 1 and found.comments[0].startswith("filter version 0, 1 inst"), found)
     judge("and the next at its first frame", found.at_frames[:1] == ["filter version 1, 1 instructions"], found)
+    judge("without a time packet a line says so once", capsys.readouterr().err.count("no time packet ahead") == 1)

@@ -9,7 +9,8 @@ from bpfrec.formats.body import Frames
 from bpfrec.formats.packet import Header, body_of, data_of
 from bpfrec.formats.records import Program
 from bpfrec.formats.whole_file import is_own
-from bpfrec_tools.follow.view import View, moment_in
+from bpfrec_tools.cli import printing
+from bpfrec_tools.follow.view import UNTIMED, View, moment_in
 from bpfrec_tools.follow.within import Within
 
 
@@ -17,10 +18,10 @@ class Shown:
     """The capture of a stream and those that follow it, as long as somebody reads it."""
 
     def __init__(self, verb: str, out: BinaryIO) -> None:
-        self.out = out
+        self.verb, self.out = verb, out
         self.view = View(verb, out, [])
         self.within = Within()
-        self.has_reader = True
+        self.has_reader, self.has_shown_frames = True, False
 
     def take(self, header: Header, packet: bytes) -> None:
         """Shows a packet, whose sums are right."""
@@ -42,6 +43,9 @@ class Shown:
         if isinstance(what, Program):
             self.view.program(what, self.within.name(what.channel))
         elif isinstance(what, Frames):
+            if not self.has_shown_frames and not self.within.known:
+                printing.err(f"{self.verb}: {UNTIMED}")
+            self.has_shown_frames = True
             interface = self.view.interface(header.channel, self.within.name(header.channel))
             for counter, marks, frame in self.view.frames_in(what, data_of(header, packet)):
                 self.view.frame(interface, moment_in(self.within.known, counter), marks, frame)
