@@ -182,7 +182,6 @@ def test_a_packet_that_is_longer_than_any_of_a_recorder_is_not_waited_for() -> N
 
 
 def test_of_an_ended_recording_is_left_out_what_the_reader_leaves_out() -> None:
-    """At each damaged byte: the same faults, and behind them the same packets."""
     draw = random.Random(SEED)
     parts = [program_packet(1, 0), *(frames(1 + it % 2, it % 3, draw.randrange(18, 40)) for it in range(4))]
     whole = b"".join([*parts, end_packet(1, 9)])

@@ -14,10 +14,10 @@ from expected_facts import UNKNOWN_SCALE
 from frames import FRAMES, body_of, packet_of
 from reading import SAMPLES
 from setups import CHAPTER11, setup_by, with_facts
-from support import EXPORT, judge, judge_quietly, outcome
+from support import EXPORT, judge, judge_quietly, outcome, program_at
 
 # Plays the program: what it is given, and how it ends.
-PLAYED = """#!/bin/sh
+PLAYED = """
 printf '%s\\n' "$@" > "$(dirname "$0")/given"
 cat "$3" > "$(dirname "$0")/setup"
 echo 'times 1 packets 1 records 3 index 2 bytes 1192'
@@ -37,10 +37,7 @@ def recording(work: Path) -> Path:
 
 def by(recording: Path, *words: object, plays: str = "", **more: Any) -> subprocess.CompletedProcess:
     """Runs the tool beside a played program."""
-    played = recording.with_name("played")
-    played.write_text(PLAYED)
-    played.chmod(0o755)
-    env = {**os.environ, "BPFREC": str(played), "PLAYED": plays}
+    env = {**os.environ, "BPFREC": str(program_at(recording.with_name("played"), PLAYED)), "PLAYED": plays}
     return outcome(*CHAPTER11, *words, env=env, cwd=recording.parent, **more)
 
 
@@ -261,9 +258,7 @@ def test_a_program_that_is_missing_is_said(recording: Path) -> None:
 @pytest.mark.parametrize("number", [signal.SIGINT, signal.SIGTERM, signal.SIGKILL], ids=lambda it: it.name)
 def test_what_ends_it_ends_the_program(recording: Path, number: signal.Signals) -> None:
     """A signal to the tool alone, as `live` sends it."""
-    played = recording.with_name("slow")
-    played.write_text("#!/bin/sh\necho begun\nexec sleep 60\n")
-    played.chmod(0o755)
+    played = program_at(recording.with_name("slow"), "echo begun\nexec sleep 60")
     words = [str(it) for it in (*CHAPTER11, *ORIGIN, recording, "out")]
     env = {**os.environ, "BPFREC": str(played)}
     with subprocess.Popen(words, env=env, stdout=subprocess.PIPE, text=True) as running:
@@ -279,9 +274,7 @@ def test_an_output_whose_reader_has_left_is_said(recording: Path) -> None:
     """By the program, which no SIGPIPE ends."""
     plays = "trap 'echo killed >&2' PIPE; sleep 0.2; echo more || echo broken >&2; exit 3"
     script = f"{EXPORT} --as=chapter11 --origin 0 flight.ch11 out | :"
-    played = recording.with_name("played")
-    played.write_text(PLAYED.replace("echo 'times", "true 'times"))
-    played.chmod(0o755)
+    played = program_at(recording.with_name("played"), PLAYED.replace("echo 'times", "true 'times"))
     env = {**os.environ, "BPFREC": str(played), "PLAYED": plays}
     done = outcome("sh", "-c", script, env=env, cwd=recording.parent)
     judge("it is told of a failed write", "broken" in done.stderr and "killed" not in done.stderr, done)

@@ -35,7 +35,6 @@ def checked(work: Path, recording: bytes) -> subprocess.CompletedProcess:
 
 @pytest.mark.parametrize("length", [4, PIECE - 8, PIECE - 4, PIECE, PIECE + 4, 2 * PIECE - 4, 1_000_000])
 def test_sums_hold_at_both_sides_of_what_is_read_at_once(work: Path, length: int) -> None:
-    """Bodies that don't end in zeros, at both sides of what is read at once, the last of them behind many."""
     draw = random.Random(length)
     body = draw.randbytes(length - 1) + b"\x5a"
     ahead = packet(b"ahead..."[:8]) * 300

@@ -14,7 +14,7 @@ from bpfrec_tools.check.judge import PIECE, Judge, content_of
 from bpfrec_tools.check.order import Place, in_order, place_of
 from bpfrec_tools.check.verifier import Verifier, verifier_of
 from bpfrec_tools.cli.signatures import Unsigned
-from support import judge, judge_quietly, sums
+from support import judge, judge_quietly, judge_same, program_at, sums
 
 DIGEST = "0123456789abcdef" * 4
 FACTS: dict[str, Any] = {"recording": "b.ch11", "sha256": DIGEST, "bytes": 5, "before": None}
@@ -32,8 +32,7 @@ def test_claims_are_read(work: Path) -> None:
         ({"recording": "b.ch11"}, Claims("b.ch11", None, None, None)),
     ]
     for told, wanted in cases:
-        found = claims_in(json.dumps(told).encode())
-        judge(str(wanted), found == wanted, found)
+        judge_same(str(wanted), claims_in(json.dumps(told).encode()), wanted)
 
 
 @pytest.mark.parametrize("wrong", ["", "x" * 64, DIGEST.upper(), f"{DIGEST}\n", DIGEST[1:], 1, True, [], {}])
@@ -75,8 +74,7 @@ def test_what_is_no_object_of_json_claims_nothing(data: bytes, monkeypatch: pyte
 def test_the_hash_is_that_of_all_bytes(work: Path, length: int) -> None:
     data = os.urandom(length)
     (work / "x").write_bytes(data)
-    found = content_of(str(work / "x"))
-    judge(f"{length} bytes", found == (hashlib.sha256(data).hexdigest(), length), found)
+    judge_same(f"{length} bytes", content_of(str(work / "x")), (hashlib.sha256(data).hexdigest(), length))
 
 
 def test_recordings_follow_one_another_by_their_numbers() -> None:
@@ -130,8 +128,7 @@ def test_the_one_before_is_the_one_that_is_given_before(work: Path) -> None:
     judge("of the first it isn't asked for", found == (True, ["hash right", "before not given: r_00001"]), found)
     found = judged.of("r_00003", b"c", before=named("r_00002", b"b"))
     judge("it is", found == (True, ["hash right", "before right: r_00002"]), found)
-    found = judged.of("r_00004", b"d")
-    judge("another run begins", found == (True, ["hash right", "before none"]), found)
+    judge_same("another run begins", judged.of("r_00004", b"d"), (True, ["hash right", "before none"]))
     found = judged.of("r_00005", b"e", before=named("r_00003", b"c"))
     judge("another", found == (False, ["hash right", "before wrong: r_00004, the facts say r_00003"]), found)
     found = judged.of("r_00006", b"f", before=named("r_00005", b"x"))
@@ -220,8 +217,7 @@ def test_each_claim_is_judged(work: Path) -> None:
         ({"sha256": 1}, False, ["facts wrong: sha256 is no hash"]),
     ]
     for changes, is_right, lines in cases:
-        found = Judged(work).of("a", b"a", **changes)
-        judge(f"{changes}", found == (is_right, lines), found)
+        judge_same(f"{changes}", Judged(work).of("a", b"a", **changes), (is_right, lines))
 
 
 class PlayedVerifier:
@@ -254,8 +250,7 @@ def test_where_signatures_are_asked_for_all_has_to_be_there(work: Path) -> None:
     found = judged.judge.judge(str(work / "a")), judged.lines
     judge("no facts", found == (False, ["hash none: there are no facts"]), found)
     judged = Judged(work, cast(Verifier, PlayedVerifier(Unsigned("why"))))
-    found = judged.of("a", b"a")
-    judge("a wrong one", found == (False, ["hash right", "before none", "signature wrong: why"]), found)
+    judge_same("a wrong one", judged.of("a", b"a"), (False, ["hash right", "before none", "signature wrong: why"]))
 
 
 def test_a_pipe_has_no_hash(work: Path) -> None:
@@ -273,8 +268,7 @@ def test_facts_and_signatures_that_are_pipes_are_not_waited_for(work: Path) -> N
     judged = Judged(work, cast(Verifier, PlayedVerifier("fc1")))
     os.mkfifo(work / "a.json.sig")
     found = judged.of("a", b"a")
-    lines = ["hash right", "before none", "signature wrong: it is no regular file"]
-    judge("a signature", found == (False, lines), found)
+    judge_same("a signature", found, (False, ["hash right", "before none", "signature wrong: it is no regular file"]))
     (work / "a.json").unlink()
     os.mkfifo(work / "a.json")
     judged.lines.clear()
@@ -287,9 +281,7 @@ def test_facts_and_signatures_that_are_pipes_are_not_waited_for(work: Path) -> N
 
 def played(work: Path, monkeypatch: pytest.MonkeyPatch, text: str) -> Verifier:
     """What verifies by a program that is played."""
-    program = work / "ssh-keygen"
-    program.write_text(f"#!/bin/sh\n{text}\n")
-    program.chmod(0o755)
+    program_at(work / "ssh-keygen", text)
     (work / "signers").write_text("")
     monkeypatch.setenv("PATH", f"{work}:{os.environ['PATH']}")
     return verifier_of(str(work / "signers"), None)

@@ -8,7 +8,7 @@ from fractions import Fraction
 import pytest
 from reading import SAMPLES
 from second_opinion import opinion_of
-from support import judge, judge_quietly
+from support import judge, judge_quietly, judge_same
 from whole_file import TIME, Origin, Setup, whole_file
 from whole_file_clock import Rule, rules_of
 from whole_file_parts import ORIGIN, SECOND, bytes_of, parts_of, recorded, sample, without
@@ -27,8 +27,7 @@ def test_the_file_of_the_least_recording_is_right() -> None:
     moment = "2025-12-01T12:00:00.2500033Z"
     lines = [f"{moment} 1 18 channel 1", f"channel 1 packets 1 frames 1 {moment} {moment} channel 1"]
     lines += ["packets 8 times 1 records 3 index 2 wrong 0"]
-    opinion = opinion_of(bytes(found.data), True)
-    judge("what it says", opinion == (True, lines), opinion)
+    judge_same("what it says", opinion_of(bytes(found.data), True), (True, lines))
 
 
 def test_a_file_of_some_channels_has_a_line_for_each() -> None:

@@ -12,7 +12,7 @@ from bpfrec_tools.live.kept import clock_watch, synchronisation
 from bpfrec_tools.live.parts import system
 from bpfrec_tools.live.parts.loop import Loop, Signals
 from bpfrec_tools.live.parts.recorder import Recorder
-from support import judge, judge_quietly
+from support import judge, judge_quietly, judge_same
 
 RIGHT: dict[str, Any] = {"is_synchronised": True, "maximum_error": "0.000125"}
 CHRONY: dict[str, Any] = {"reference": "192.0.2.1", "state": "Normal"}
@@ -71,8 +71,7 @@ def test_a_clock_is_worse_where_it_is_unsynchronised_unknown_or_off_by_more() ->
 
 def test_an_error_of_a_clock_is_taken_with_its_unit() -> None:
     table = {"0.01": 0.01, "1": 1.0, "16s": 16.0, "10ms": 0.01, "500us": 0.0005, "0.5ms": 0.0005, "0.000001": 1e-6}
-    found = {word: arguments.clock_error(word) for word in table}
-    judge("each is as many seconds", found == pytest.approx(table), found)
+    judge_same("each is as many seconds", {word: arguments.clock_error(word) for word in table}, pytest.approx(table))
     for word in ("", "0", "0.0000001", "16.1", "17", "-1", "1m", "1e-3", ".5", "1 s", "ms", "١", "nan"):
         with pytest.raises(argparse.ArgumentTypeError):
             arguments.clock_error(word)
@@ -124,8 +123,7 @@ def test_what_the_kernel_says_is_read_in_its_units(
         "maximum_error": "16.000001",
         "tai_offset": 37,
     }
-    found = synchronisation.by_kernel()
-    judge("each is as it has to be", found == {"is_synchronised": is_synchronised, **wanted}, found)
+    judge_same("each is as it has to be", synchronisation.by_kernel(), {"is_synchronised": is_synchronised, **wanted})
 
 
 @pytest.fixture

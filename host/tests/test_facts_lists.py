@@ -9,7 +9,7 @@ import pytest
 from bpfrec.formats.facts import Expression, Facts, Interruption, NoFacts
 from bpfrec.formats.marks import Mark
 from expected_facts import facts_of_run
-from support import ROOT, judge
+from support import ROOT, judge, judge_same
 
 SCHEMA = json.loads((ROOT / "docs/user/formats/facts.schema.json").read_text())
 LISTS = {key for key, value in SCHEMA["properties"].items() if value.get("type") == "array"}
@@ -110,8 +110,7 @@ def test_a_wrong_entry_is_left_out_or_named_wherever_it_is(name: str, at: int) -
     entries: list[object] = [row.entry(it) for it in (0, 1)]
     entries.insert(at, 7)
     if row.leaves_out:
-        found = row.read(facts_with(name, entries))
-        judge(f"{name} without it", found == row.wanted([0, 1]), found)
+        judge_same(f"{name} without it", row.read(facts_with(name, entries)), row.wanted([0, 1]))
         return
     what = {"origins": "origin", "losses": "loss"}[name]
     with pytest.raises(NoFacts, match=f"^{what} {at + 1} of 3: "):

@@ -20,7 +20,6 @@ from whole_file import TIME, Origin, Setup, whole_file
 from whole_file_clock import rules_of
 from whole_file_parts import ORIGIN, SAMPLE_SETUP, SECOND, parts_of, place_of, recorded, sample, sample_recording
 
-SETUP = 0x01
 AUDIT = Audit("yes other 10", None)
 
 
@@ -160,7 +159,6 @@ def test_what_is_damaged_is_not_known(whole: Path) -> None:
 
 
 def test_hostile_files_are_read_to_their_end(whole: Path) -> None:
-    """Each byte may be anything."""
     draw, good = random.Random(7), sample()
     for _ in range(300):
         data = bytearray(good)

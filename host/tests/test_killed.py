@@ -10,7 +10,7 @@ from bpfrec_tools.check.verifier import verifier_of
 from bpfrec_tools.cli.program import audit_of
 from bpfrec_tools.cli.signatures import Unsigned
 from reading import SAMPLES
-from support import CHECK, INFO, judge, outcome
+from support import CHECK, INFO, judge, judge_same, outcome, program_at
 
 YES = "echo 'channel 1 programs 1 frames 1 offered 1'; echo 'yes other 0'"
 # How an audit ends that has printed its yes, and what is said of it.
@@ -24,27 +24,19 @@ ENDS = {
 }
 
 
-def played(folder: Path, name: str, text: str) -> Path:
-    """A program that a shell plays."""
-    (folder / name).write_text(f"#!/bin/sh\n{text}\n")
-    (folder / name).chmod(0o755)
-    return folder / name
-
-
 @pytest.mark.parametrize("end", ENDS)
 def test_an_audit_that_fails_behind_its_yes_has_not_said_it(
     work: Path, end: str, monkeypatch: pytest.MonkeyPatch
 ) -> None:
     recording = Path(shutil.copy(SAMPLES[1], work / "x.ch11"))
-    monkeypatch.setenv("BPFREC", str(played(work, "bpfrec", f"cat > /dev/null; {YES}; {end}")))
+    monkeypatch.setenv("BPFREC", str(program_at(work / "bpfrec", f"cat > /dev/null; {YES}; {end}")))
     is_yes = end == "exit 0"
     found = audit_of(str(recording))
     judge("the audit", (found.is_yes(), str(found)) == (is_yes, ENDS[end]), found)
     done = outcome(CHECK, recording)
     lines = [f"audit: {ENDS[end]}", "yes" if is_yes else "no"]
     judge("check", (done.returncode, done.stdout.splitlines()[-2:]) == (not is_yes, lines), done)
-    told = json.loads(outcome(INFO, "--json", recording).stdout)["audit"]
-    judge("info", told == ENDS[end], told)
+    judge_same("info", json.loads(outcome(INFO, "--json", recording).stdout)["audit"], ENDS[end])
 
 
 @pytest.mark.parametrize("killed", ["find-principals", "verify"])
@@ -53,7 +45,7 @@ def test_a_verifier_of_signatures_that_is_killed_verifies_nothing(
     work: Path, killed: str, identity: str, monkeypatch: pytest.MonkeyPatch
 ) -> None:
     """Of those that verify, only the ones that are asked are; where the signer is given, nobody looks for one."""
-    played(work, "ssh-keygen", f"cat > /dev/null; echo a; test $2 != {killed} || kill -9 $$")
+    program_at(work / "ssh-keygen", f"cat > /dev/null; echo a; test $2 != {killed} || kill -9 $$")
     (work / "signers").write_text("")
     monkeypatch.setenv("PATH", f"{work}:{os.environ['PATH']}")
     verifier = verifier_of(str(work / "signers"), identity)

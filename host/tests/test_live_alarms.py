@@ -16,7 +16,7 @@ from bpfrec_tools.live.reports.journal import Priority, priority_of
 from bpfrec_tools.live.status.alarms import Alarm, AlarmChange, AlarmChanges, Level, Name
 from bpfrec_tools.live.status.terminal import Terminal
 from scripted import Flight, Wire
-from support import judge, judge_quietly, wait_for
+from support import judge, judge_quietly, program_at, wait_for
 
 SILENT = Alarm(Name.SILENT, Level.ALARM, 3, "silent", "channel 3 (eth2): no frame came for 11 s")
 DISK = Alarm(Name.DISK, Level.ALARM, None, "disk full", "the disk is full: 7 B are free")
@@ -97,19 +97,13 @@ def made(signals: Signals, monkeypatch: pytest.MonkeyPatch) -> Callable[..., Run
     return lambda *command: Run(signals, monkeypatch, *command)
 
 
-def script(work: Path, text: str) -> Path:
-    path = work / "alarm"
-    path.write_text(f"#!/bin/sh\n{text}\n")
-    path.chmod(0o755)
-    return path
-
-
 def test_a_program_gets_each_alarm_in_order_with_its_name_channel_and_text(
     work: Path, made: Callable[..., Run]
 ) -> None:
     noted = work / "noted"
     run = made(
-        script(work, f'printf "%s|" "$#" "$@" >> {noted}; echo >> {noted}; echo lost; echo lost >&2'), "two words"
+        program_at(work / "alarm", f'printf "%s|" "$#" "$@" >> {noted}; echo >> {noted}; echo lost; echo lost >&2'),
+        "two words",
     )
     for change in (
         AlarmChange(True, SILENT),
@@ -162,7 +156,7 @@ def test_a_program_that_fails_or_hangs_is_said_and_the_next_is_run(
     work: Path, made: Callable[..., Run], text: str, line: str
 ) -> None:
     noted, program = work / "noted", work / "alarm"
-    run = made(script(work, f"echo x >> {noted}; {text}"))
+    run = made(program_at(work / "alarm", f"echo x >> {noted}; {text}"))
     began = time.monotonic()
     run.command.take(AlarmChange(True, DISK))
     run.command.take(AlarmChange(False, DISK))
@@ -180,7 +174,7 @@ def test_a_program_that_is_gone_is_said(work: Path, made: Callable[..., Run]) ->
 
 
 def test_what_waits_is_bounded_and_what_is_left_out_is_counted(work: Path, made: Callable[..., Run]) -> None:
-    run = made(script(work, ":"))
+    run = made(program_at(work / "alarm", ":"))
     for _ in range(alarm_command.MOST_WAITING + 4):
         run.command.take(AlarmChange(True, DISK))
     judge("no more than a number waits", len(run.command.waiting) == alarm_command.MOST_WAITING)
@@ -192,7 +186,7 @@ def test_what_waits_is_bounded_and_what_is_left_out_is_counted(work: Path, made:
 @pytest.mark.parametrize("text", ["exec sleep 60", "trap '' TERM; while :; do sleep 1; done"], ids=["slow", "deaf"])
 def test_the_end_of_a_run_waits_for_a_time_in_all(work: Path, made: Callable[..., Run], text: str) -> None:
     """Also where many wait, and where the program was begun just before."""
-    run = made(script(work, f"echo $$ >> {work}/noted; {text}"))
+    run = made(program_at(work / "alarm", f"echo $$ >> {work}/noted; {text}"))
     for _ in range(20):
         run.command.take(AlarmChange(True, DISK))
     child = run.command.child
@@ -205,7 +199,7 @@ def test_the_end_of_a_run_waits_for_a_time_in_all(work: Path, made: Callable[...
 
 
 def test_the_end_of_a_run_has_the_program_run_for_what_waits(work: Path, made: Callable[..., Run]) -> None:
-    run = made(script(work, f"echo x >> {work}/noted"))
+    run = made(program_at(work / "alarm", f"echo x >> {work}/noted"))
     for _ in range(5):
         run.command.take(AlarmChange(True, DISK))
     run.command.finish(lambda: False)
@@ -213,7 +207,7 @@ def test_the_end_of_a_run_has_the_program_run_for_what_waits(work: Path, made: C
 
 
 def test_an_end_that_is_given_up_waits_for_nothing(work: Path, made: Callable[..., Run]) -> None:
-    run = made(script(work, "exec sleep 60"))
+    run = made(program_at(work / "alarm", "exec sleep 60"))
     run.command.take(AlarmChange(True, DISK))
     child, began = run.command.child, time.monotonic()
     run.command.finish(lambda: True)

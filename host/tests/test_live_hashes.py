@@ -23,7 +23,6 @@ from support import judge, judge_quietly, wait_for
 
 @pytest.mark.parametrize("length", [0, 1, PIECE - 1, PIECE, PIECE + 1, 2 * PIECE + 3])
 def test_the_hash_is_that_of_all_bytes(work: Path, length: int) -> None:
-    """At both sides of what is read at once."""
     data = os.urandom(length)
     found = Played().hashes.digest_of(job_of(made(work / "out", data)))
     judge(f"{length} bytes", found == hashlib.sha256(data).hexdigest(), found)

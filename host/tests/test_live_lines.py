@@ -141,7 +141,6 @@ def test_a_line_that_is_refused_says_why(lines: Lines, line: str) -> None:
 
 @pytest.mark.parametrize("name, channel", [("1", 1), ("eth1", 2), ('"bus B"', 2), ('"eth0"', 1)])
 def test_a_channel_may_be_named(lines: Lines, name: str, channel: int) -> None:
-    """By its ID, its interface or its name."""
     lines.come(f"set {name} udp port 5\n".encode())
     lines.turn()
     judge("its filter is made", [it.change.channel for it in lines.control.held] == [channel] and len(lines.made) == 1)

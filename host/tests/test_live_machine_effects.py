@@ -1,5 +1,7 @@
 """Tries all that the machine of bpfrec live does and says in a run, in its order: none is left out, and none is more."""
 
+from collections.abc import Callable
+
 import pytest
 from live_events import FILES, ROTATING, SINGLE, at_once, begun, disk_is_full, recorder_dies, while_handing_over
 from live_world import Plan, World
@@ -10,30 +12,16 @@ BEGIN = "start_recorder 1, start_capture 1, create 1, point_to 1"
 SECOND = "create 2, start_recorder 2, end_lines 1, point_to 2, switch_capture 2"
 
 
-def end(world: World) -> None:
-    """Ends a run by a signal."""
-    world.machine.told_to_end(world.time)
-    world.finish()
-
-
-def single() -> World:
-    world = begun(SINGLE)
-    end(world)
-    return world
-
-
 def of_feeds() -> World:
     world = begun(FILES, at_once)
     world.settle()
-    end(world)
-    return world
+    return world.end()
 
 
 def handed_over() -> World:
     world = begun(ROTATING, while_handing_over)
     world.settle()
-    end(world)
-    return world
+    return world.end()
 
 
 def without_a_next() -> World:
@@ -42,42 +30,35 @@ def without_a_next() -> World:
     world.can_start = False
     world.wait(10)
     world.can_start = True
-    end(world)
-    return world
+    return world.end()
 
 
 def full_disk(plan: Plan) -> World:
     world = begun(plan)
     disk_is_full(world)
     world.settle()
-    world.wait(1)
-    world.settle()
-    end(world)
-    return world
+    world.let_pass(1)
+    return world.end()
 
 
 def killed_recorder() -> World:
     world = begun(ROTATING)
     recorder_dies(world)
-    world.wait(0)
-    world.settle()
-    end(world)
-    return world
+    world.let_pass(0)
+    return world.end()
 
 
 def capture_that_ends_alone() -> World:
     """Nobody told it to."""
     world = begun(ROTATING)
     world.end_capture(0)
-    world.finish()
-    return world
+    return world.finished()
 
 
 def dead_capture() -> World:
     world = begun(SINGLE)
     world.end_capture(137)
-    world.finish()
-    return world
+    return world.finished()
 
 
 def dead_capture_at_the_start() -> World:
@@ -85,23 +66,20 @@ def dead_capture_at_the_start() -> World:
     world = begun(SINGLE, at_once)
     world.current().pipes_left = 1
     world.end_capture(137)
-    world.finish()
-    return world
+    return world.finished()
 
 
 def refused_capture() -> World:
     world = begun(SINGLE, at_once)
     world.end_capture(3)
-    world.finish()
-    return world
+    return world.finished()
 
 
 def refused_out() -> World:
     world = begun(SINGLE, at_once)
     world.has_space = False
     world.ready()
-    world.finish()
-    return world
+    return world.finished()
 
 
 def hurried() -> World:
@@ -111,17 +89,14 @@ def hurried() -> World:
     world.machine.told_to_end(world.time)
     world.settle()
     world.wait(2)
-    world.machine.told_to_end(world.time)
-    world.finish()
-    return world
+    return world.end()
 
 
 def unprinted() -> World:
     """The report can't be printed."""
     world = begun(SINGLE)
     world.machine.printing_failed()
-    end(world)
-    return world
+    return world.end()
 
 
 WAS_KILLED = "was ended by signal 9"
@@ -129,8 +104,8 @@ CUT = "out_1 has the packets that were written until then, which salvage copies"
 FULL = "bpfrec live: out_1 can't be written any more"
 END = "end_capture {0}, end_lines {0}, print_report {0}, audit {0}, conclude {0}"
 LAST, LAST_OF_TWO = END.format(1), END.format(2)
-RUNS = {
-    "single": (single, f"{BEGIN}, {LAST}", 0),
+RUNS: dict[str, tuple[Callable[[], World], str, int]] = {
+    "single": (lambda: begun(SINGLE).end(), f"{BEGIN}, {LAST}", 0),
     # They are ended once more with their recorder.
     "of_feeds": (
         of_feeds,

@@ -6,7 +6,7 @@ from support import judge, judge_quietly, present
 
 
 def test_after_a_full_disk_the_next_recording_waits_for_room() -> None:
-    """After a full disk the next recording waits for room, and longer after each failure."""
+    """And longer after each failure."""
     world = begun(ROTATING)
     for turn in range(3):
         played = world.current()
@@ -19,12 +19,10 @@ def test_after_a_full_disk_the_next_recording_waits_for_room() -> None:
         world.wait(0.02)
         judge_quietly("nor without room", world.current() is played)
         world.has_space = True
-        world.wait(1.0)
-        world.settle()
+        world.let_pass(1.0)
         judge_quietly("but then", world.current() is not played and world.current().recording.phase is Phase.GOING)
         judge_quietly("the failed one is told", played.concluded == [1] and played.audits == 0)
-    world.wait(10)
-    world.settle()
+    world.let_pass(10)
     judge("a recording that is handed over ends the row", world.machine.retries.failures == 0)
 
 
@@ -37,16 +35,13 @@ def test_after_a_disk_that_fails_to_write_back_recordings_follow_later_and_later
         pause = 0.5 * 2 ** min(turn + 1, 7)
         world.wait(pause - 0.01)
         judge_quietly("nothing follows at once", world.current() is played)
-        world.wait(0.02)
-        world.settle()
+        world.let_pass(0.02)
         holds = world.current() is not played and played.concluded == [0] and played.audits == 1
         judge_quietly("but then", holds, turn)
     judge("each is told once", len(world.said) == len(set(world.said)) == 9, world.said)
-    world.wait(1_000)
-    world.settle()
+    world.let_pass(1_000)
     judge("one that is handed over well ends the row", world.machine.retries.failures == 0)
-    world.machine.told_to_end(world.time)
-    world.finish()
+    world.end()
     judge("the status is 1", world.machine.status(False) == 1)
 
 
@@ -75,8 +70,7 @@ def test_a_recording_that_cannot_be_forced_goes_on_where_none_follows() -> None:
     disk_fails(world)
     world.wait(100)
     judge("nothing ends", world.machine.deadline(world.time) is None and world.current().is_running)
-    world.machine.told_to_end(world.time)
-    world.finish()
+    world.end()
     judge("but the status is 1", world.machine.status(False) == 1 and world.current().audits == 1)
 
 
@@ -85,8 +79,7 @@ def test_a_killed_recorder_is_followed_by_the_next_recording() -> None:
     first = world.current()
     recorder_dies(world)
     judge("the capture keeps the frames", world.held == 1 and world.asked_to_end == 0)
-    world.wait(0)
-    world.settle()
+    world.let_pass(0)
     judge("the next one goes on", world.current() is not first and world.current().recording.phase is Phase.GOING)
     judge("the cut one is told, and isn't audited", first.concluded == [KILLED] and first.audits == 0)
     second = world.current()
@@ -95,22 +88,18 @@ def test_a_killed_recorder_is_followed_by_the_next_recording() -> None:
     judge("it isn't looked at all the time", world.machine.deadline(world.time + 0.2) == world.time + 0.5)
     world.wait(0.49)
     judge("a second one in a row isn't followed at once", world.current() is second)
-    world.wait(0.02)
-    world.settle()
+    world.let_pass(0.02)
     judge("but soon", world.current() is not second and world.is_capturing)
-    world.machine.told_to_end(world.time)
-    world.finish()
+    world.end()
     judge("the status says that one was killed", world.machine.status(False) == KILLED)
 
 
 def killed(world: World, count: int, pause: float) -> None:
     """So many recorders are killed, each so long after it was begun."""
     for _ in range(count):
-        world.wait(pause)
-        world.settle()
+        world.let_pass(pause)
         recorder_dies(world)
-        world.wait(1)
-        world.settle()
+        world.let_pass(1)
 
 
 def test_ten_killed_recorders_in_a_row_within_a_minute_end_the_run() -> None:
@@ -135,8 +124,7 @@ def test_a_recording_that_is_handed_over_well_ends_a_row_of_kills() -> None:
     world = begun(ROTATING._replace(every=3))
     for _ in range(30):
         killed(world, 1, 0.5)
-        world.wait(3)
-        world.settle()
+        world.let_pass(3)
     judge("recordings go on", world.is_capturing and world.current().is_running, world.said)
 
 

@@ -21,7 +21,7 @@ from bpfrec_tools.live.parts.loop import Loop
 from bpfrec_tools.live.parts.recorder import Recorder
 from bpfrec_tools.live.parts.recordings import ROOM, Recordings
 from bpfrec_tools.live.run.recorders import Recorders
-from support import judge
+from support import judge, judge_same
 
 YES, NO = "channel 1 programs 1 frames 1 offered 1\nyes other 0\n", "no 5 NoEnd 1\n"
 
@@ -54,7 +54,6 @@ def test_a_recording_may_be_removed_whose_status_is_0_and_whose_audit_says_yes(
 
 
 def test_another_file_that_has_the_name_of_out_is_no_recording_of_the_run_and_stays(work: Path) -> None:
-    """It isn't removed later either, nor with an OUT that is discarded."""
     recorder, out = recorder_of(work), work / "out"
     out.rename(work / "moved")
     out.write_text("another")
@@ -151,8 +150,7 @@ def test_a_number_is_skipped_that_a_file_of_a_recording_has(work: Path, ending: 
     """Also where that is a link that leads nowhere."""
     (work / f"f_00001.ch11{ending}").write_text("kept")
     (work / f"f_00002.ch11{ending}").symlink_to("nowhere")
-    names = Names(str(work / "f.ch11"))
-    judge("the next one is taken", names.next() == (3, f"{work}/f_00003.ch11"))
+    judge_same("the next one is taken", Names(str(work / "f.ch11")).next(), (3, f"{work}/f_00003.ch11"))
 
 
 def test_a_recording_that_went_before_is_no_sync_of_the_one_that_goes_on() -> None:

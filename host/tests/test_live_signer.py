@@ -16,7 +16,7 @@ from bpfrec_tools.live.arguments import read
 from bpfrec_tools.live.kept import signer
 from bpfrec_tools.live.kept.names import Refusal
 from bpfrec_tools.live.kept.signer import Signer
-from support import ROOT, judge, wait_for
+from support import ROOT, judge, program_at, wait_for
 
 LOCKED = b'Enter passphrase: Load key "k": incorrect passphrase supplied to decrypt private key\r\n'
 OPEN = (
@@ -30,11 +30,6 @@ def played_program(work: Path, monkeypatch: pytest.MonkeyPatch) -> Path:
     """ssh-keygen, to be written."""
     monkeypatch.setenv("PATH", f"{work}:{os.environ['PATH']}")
     return work / "ssh-keygen"
-
-
-def write(program: Path, text: str) -> None:
-    program.write_text(f"#!/bin/sh\n{text}\n")
-    program.chmod(0o755)
 
 
 def why_unsigned(made: Signer) -> str:
@@ -67,7 +62,9 @@ def test_a_fault_is_said_in_the_words_of_ssh_keygen(printed: bytes, code: int, r
 def test_it_signs_what_it_reads_in_the_namespace_of_recordings(played: Path, monkeypatch: pytest.MonkeyPatch) -> None:
     """And gets nothing by which it could ask a person."""
     names = "DISPLAY SSH_ASKPASS WAYLAND_DISPLAY"
-    write(played, f'echo "$@"; cat; for it in {names}; do printenv $it; done; echo $SSH_ASKPASS_REQUIRE; tty; true')
+    program_at(
+        played, f'echo "$@"; cat; for it in {names}; do printenv $it; done; echo $SSH_ASKPASS_REQUIRE; tty; true'
+    )
     for name in names.split():
         monkeypatch.setenv(name, "asks")
     found = Signer("the key").sign(b"facts\n").decode()
@@ -75,7 +72,7 @@ def test_it_signs_what_it_reads_in_the_namespace_of_recordings(played: Path, mon
 
 
 def test_one_that_takes_too_long_is_ended(played: Path, work: Path) -> None:
-    write(played, f"echo $$ > {work}/pid; exec sleep 600")
+    program_at(played, f"echo $$ > {work}/pid; exec sleep 600")
     begun = time.monotonic()
     judge("it is said", why_unsigned(Signer("k", longest=1.0)) == "ssh-keygen took over 1 s")
     judge("in time", time.monotonic() < begun + 30)
@@ -84,7 +81,7 @@ def test_one_that_takes_too_long_is_ended(played: Path, work: Path) -> None:
 
 def test_one_that_is_ended_signs_nothing(played: Path, work: Path) -> None:
     """Also where that comes before it is started."""
-    write(played, f"touch {work}/begun; exec sleep 600")
+    program_at(played, f"touch {work}/begun; exec sleep 600")
     made = Signer("k")
 
     def kill_once_it_has_begun() -> None:
@@ -99,21 +96,20 @@ def test_one_that_is_ended_signs_nothing(played: Path, work: Path) -> None:
 
 
 def test_no_signature_and_no_fault_is_none(played: Path) -> None:
-    write(played, "exit 0")
+    program_at(played, "exit 0")
     judge("it is said", why_unsigned(Signer("k")) == "ssh-keygen ended with status 0")
 
 
 def test_a_program_that_can_not_be_had_is_said(work: Path, monkeypatch: pytest.MonkeyPatch) -> None:
     monkeypatch.setenv("PATH", str(work))
     judge("it is missing", why_unsigned(Signer("k")) == "ssh-keygen is missing: it is in Debian's openssh-client")
-    (work / "ssh-keygen").write_text("no program")
-    (work / "ssh-keygen").chmod(0o755)
+    program_at(work / "ssh-keygen", "no program", "")
     judge("it is no program", why_unsigned(Signer("k")) == "ssh-keygen: Exec format error")
 
 
 def test_the_trial_at_the_start_has_less_time(played: Path, monkeypatch: pytest.MonkeyPatch) -> None:
     """A person waits for it, and an agent may hang."""
-    write(played, "exec sleep 600")
+    program_at(played, "exec sleep 600")
     judge("ten seconds", (signer.LONGEST_TRIAL, signer.LONGEST) == (10.0, 30.0))
     monkeypatch.setattr(ahead, "LONGEST_TRIAL", 1.0)
     with pytest.raises(Refusal, match="^bpfrec live: --sign k: ssh-keygen took over 1 s$"):
@@ -145,14 +141,14 @@ def begun_signing() -> subprocess.Popen[str]:
 
 def test_one_that_reads_nothing_ends_nobody_by_a_signal(played: Path) -> None:
     """It ends before it has read the facts, of which there are more than a pipe takes."""
-    write(played, "echo no such key >&2; exit 1")
+    program_at(played, "echo no such key >&2; exit 1")
     signing = begun_signing()
     printed = signing.communicate(timeout=60)[0]
     judge("why is said", (signing.returncode, printed) == (0, "no such key\n"), (signing.returncode, printed))
 
 
 def test_an_interrupt_ends_one_that_hangs(played: Path, work: Path) -> None:
-    write(played, f"echo $$ > {work}/new; mv {work}/new {work}/pid; exec sleep 100")
+    program_at(played, f"echo $$ > {work}/new; mv {work}/new {work}/pid; exec sleep 100")
     signing = begun_signing()
     wait_for("it is asked", (work / "pid").exists)
     signing.send_signal(signal.SIGINT)

@@ -41,7 +41,6 @@ def pipe_that_is_full() -> tuple[int, int]:
 
 
 def test_lines_without_room_are_counted_and_the_next_one_says_so() -> None:
-    """Lines that have no room are counted, and the next one that has says so."""
     reads, writes = pipe_that_is_full()
     lines = standard_streams.Lines(writes)
     begun = time.monotonic()
@@ -61,7 +60,6 @@ def test_lines_without_room_are_counted_and_the_next_one_says_so() -> None:
 
 
 def test_what_has_no_room_waits_and_a_broken_stream_fails() -> None:
-    """What there is no room for waits; a stream that breaks has failed."""
     reads, writes = pipe_that_is_full()
     printed = standard_streams.Printed(writes)
     printed.put("a" * 10_000)
@@ -106,7 +104,6 @@ def test_a_descriptor_that_is_closed_and_given_anew_is_not_mixed_up(signals: Sig
 
 
 def test_without_process_descriptors_sigchld_tells_of_an_end(signals: Signals, monkeypatch: pytest.MonkeyPatch) -> None:
-    """Where the system has no descriptors of programs, SIGCHLD tells of an end."""
     monkeypatch.delattr(os, "pidfd_open")
     loop = Loop(signals, lambda: None)
     ended: list[int] = []
@@ -118,7 +115,6 @@ def test_without_process_descriptors_sigchld_tells_of_an_end(signals: Signals, m
 
 
 def test_standard_output_that_stands_still_is_waited_for_until_given_up(signals: Signals) -> None:
-    """Standard output that stands still is waited for, until somebody gives up."""
     reads, writes = pipe_that_is_full()
     failed: list[int] = []
     loop = Loop(signals, lambda: None)
@@ -190,7 +186,6 @@ def after(done: Callable[[], None], found: list[int]) -> list[int]:
 
 
 def test_without_ctypes_live_does_without_what_it_is_for(monkeypatch: pytest.MonkeyPatch) -> None:
-    """Where Python has no ctypes, live does without what it is for."""
     monkeypatch.setattr(system, "LIBC", None)
     system.give_capabilities_up()
     with system.capabilities_of_children(False):

@@ -109,8 +109,7 @@ def met_by(
     world.ready()
     for _ in range(4):
         later_signal_comes(world)
-        world.wait(4.1)
-        world.settle()
+        world.let_pass(4.1)
     return world.happened
 
 

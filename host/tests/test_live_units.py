@@ -1,11 +1,12 @@
 """Tries parts of bpfrec live by themselves, without root: operands, names, files and what is kept safe."""
 
+import contextlib
 import errno
 import functools
 import os
 import re
 import time
-from collections.abc import Callable
+from collections.abc import Callable, Iterator
 from pathlib import Path
 
 import pytest
@@ -20,7 +21,7 @@ from bpfrec_tools.live.kept.names import Files, Refusal
 from bpfrec_tools.live.parts import expressions
 from bpfrec_tools.live.reports import notify
 from service import Manager
-from support import ROOT, judge, judge_quietly, wait_for
+from support import ROOT, judge, judge_quietly, judge_same, wait_for
 
 # ---- the command line
 
@@ -169,33 +170,39 @@ class Heard:
         self.unwritten += 1
 
 
-def test_a_file_is_forced_to_its_disk_each_second_with_its_facts(work: Path, monkeypatch: pytest.MonkeyPatch) -> None:
-    """It forces a file to its disk each second, writes the newest facts, and tells of those that can't be written."""
-    told = Heard()
-    path = work / "out"
-    path.write_bytes(b"")
-    descriptor = os.open(path, os.O_RDWR)
-    keeper = Keeper(descriptor, str(work), 1, told)
+@contextlib.contextmanager
+def kept(work: Path, told: Heard, seconds: float = 1, folder: str = "") -> Iterator[Keeper]:
+    """A keeper of a file, which has ended behind it."""
+    descriptor = os.open(work / "out", os.O_RDWR | os.O_CREAT)
+    keeper = Keeper(descriptor, str(work / folder), seconds, told)
     keeper.start()
-    wait_for("it was forced", lambda: told.moments, 3)
+    try:
+        yield keeper
+    finally:
+        keeper.end()
+        keeper.join(5)
+        os.close(descriptor)
+
+
+def test_a_file_is_forced_to_its_disk_each_second_with_its_facts(work: Path, monkeypatch: pytest.MonkeyPatch) -> None:
+    told = Heard()
     done: list[int] = []
-    keeper.write(lambda: done.append(1))
-    wait_for("facts are written", lambda: done == [1], 3)
-    for number in (2, 3, 4):
-        keeper.write(functools.partial(done.append, number))
-    judge("others wait a second", done == [1])
-    wait_for("the newest come", lambda: done == [1, 4], 3)
 
     def full() -> None:
         raise OSError(errno.ENOSPC, "full")
 
-    keeper.write(full)
-    keeper.end()
-    keeper.join(5)
+    with kept(work, told) as keeper:
+        wait_for("it was forced", lambda: told.moments, 3)
+        keeper.write(lambda: done.append(1))
+        wait_for("facts are written", lambda: done == [1], 3)
+        for number in (2, 3, 4):
+            keeper.write(functools.partial(done.append, number))
+        judge("others wait a second", done == [1])
+        wait_for("the newest come", lambda: done == [1, 4], 3)
+        keeper.write(full)
     judge("facts that can't be written are told, at the end at once", told.unwritten == 1 and not keeper.is_alive())
     times = told.moments
     judge("the times of what is safe rise", times == sorted(times) and len(times) >= 3 and not told.faults, times)
-    os.close(descriptor)
 
 
 def test_a_file_is_on_its_disk_up_to_the_moment_before_it_is_forced(
@@ -210,31 +217,19 @@ def test_a_file_is_on_its_disk_up_to_the_moment_before_it_is_forced(
 
     told = Heard()
     monkeypatch.setattr(os, "fdatasync", takes_long)
-    descriptor = os.open(work / "out", os.O_RDWR | os.O_CREAT)
-    keeper = Keeper(descriptor, str(work), 1, told)
-    keeper.start()
-    wait_for("it was forced", lambda: told.moments, 3)
-    keeper.end()
-    keeper.join(5)
-    os.close(descriptor)
+    with kept(work, told):
+        wait_for("it was forced", lambda: told.moments, 3)
     pairs = list(zip(told.moments, begun))
     judge("that is what is told", len(pairs) == 2 and all(moment <= it for moment, it in pairs), pairs)
 
 
 def test_a_folder_that_cannot_be_forced_stops_nothing(work: Path) -> None:
-    """A folder that can't be forced keeps it from nothing."""
     told = Heard()
-    descriptor = os.open(work / "out", os.O_RDWR | os.O_CREAT)
-    keeper = Keeper(descriptor, str(work / "none"), 1, told)
-    keeper.start()
-    wait_for("the file was forced", lambda: told.moments, 3)
-    keeper.end()
-    keeper.join(5)
-    os.close(descriptor)
+    with kept(work, told, folder="none"):
+        wait_for("the file was forced", lambda: told.moments, 3)
 
 
 def test_the_first_reason_of_a_failing_disk_stays(work: Path, monkeypatch: pytest.MonkeyPatch) -> None:
-    """The first reason of a disk that fails stays, and a file that is let go is forced no more."""
     reasons = iter([errno.EIO, errno.ENOSPC])
 
     def fails(_: int) -> None:
@@ -242,20 +237,14 @@ def test_the_first_reason_of_a_failing_disk_stays(work: Path, monkeypatch: pytes
         raise OSError(number, os.strerror(number))
 
     told = Heard()
-    descriptor = os.open(work / "out", os.O_RDWR | os.O_CREAT)
-    with monkeypatch.context() as patched:
-        patched.setattr(os, "fdatasync", fails)
-        keeper = Keeper(descriptor, "", 1, told)
-        keeper.start()
+    monkeypatch.setattr(os, "fdatasync", fails)
+    with kept(work, told) as keeper:
         wait_for("it is told twice", lambda: len(told.faults) == 2, 3)
         keeper.release()
         wait_for("it is let go", lambda: keeper.descriptor == -1, 3)
-        keeper.end()
-        keeper.join(5)
     reason = os.strerror(errno.EIO)
     judge("with its first reason", told.faults == [reason] * 2 and keeper.sync_fault == reason, told.faults)
     judge("nothing else is told", not told.moments and not told.unwritten and not keeper.is_alive())
-    os.close(descriptor)
 
 
 @pytest.mark.parametrize("is_released", [False, True])
@@ -265,20 +254,16 @@ def test_a_file_is_forced_a_last_time_ahead_of_the_last_facts_unless_it_was_let_
     done: list[str] = []
     real = os.fdatasync
     monkeypatch.setattr(os, "fdatasync", lambda descriptor: forced(done, real, descriptor))
-    descriptor = os.open(work / "out", os.O_RDWR | os.O_CREAT)
-    keeper = Keeper(descriptor, str(work), 1_000, Heard())
-    keeper.start()
-    wait_for("it is forced once", lambda: done == ["forced"], 3)
-    if is_released:
+    with kept(work, Heard(), 1_000) as keeper:
+        wait_for("it is forced once", lambda: done == ["forced"], 3)
+        if is_released:
+            keeper.release()
+            wait_for("it is let go", lambda: keeper.descriptor == -1, 3)
+        keeper.write(lambda: done.append("facts"))
+        keeper.end()
+        # What was ended isn't let go any more, and gets no other facts.
         keeper.release()
-        wait_for("it is let go", lambda: keeper.descriptor == -1, 3)
-    keeper.write(lambda: done.append("facts"))
-    keeper.end()
-    # What was ended isn't let go any more, and gets no other facts.
-    keeper.release()
-    keeper.write(lambda: done.append("late facts"))
-    keeper.join(5)
-    os.close(descriptor)
+        keeper.write(lambda: done.append("late facts"))
     judge("in this order", done == ["forced", *(["facts"] if is_released else ["forced", "facts"])], done)
 
 
@@ -288,13 +273,8 @@ def test_a_disk_that_takes_no_forcing_is_none_that_fails(work: Path, monkeypatch
 
     told = Heard()
     monkeypatch.setattr(os, "fdatasync", refuses)
-    descriptor = os.open(work / "out", os.O_RDWR | os.O_CREAT)
-    keeper = Keeper(descriptor, str(work), 1, told)
-    keeper.start()
-    time.sleep(0.2)
-    keeper.end()
-    keeper.join(5)
-    os.close(descriptor)
+    with kept(work, told) as keeper:
+        time.sleep(0.2)
     judge("nothing is told", not told.faults and not told.moments and keeper.sync_fault is None)
 
 
@@ -313,5 +293,4 @@ def test_more_time_is_asked_of_systemd_for_audits_alone(work: Path, monkeypatch:
     wait_for("all is told", lambda: manager.times("X=42.0"))
     told = [line for _, lines in manager.told for line in lines if not line.startswith("STATUS")]
     plea = "EXTEND_TIMEOUT_USEC=60000000"
-    wanted = ["STOPPING=1", "X=0.0", "X=30.0", plea, "X=31.0", "X=32.0", plea, "X=42.0"]
-    judge("each ten seconds", told == wanted, told)
+    judge_same("each ten seconds", told, ["STOPPING=1", "X=0.0", "X=30.0", plea, "X=31.0", "X=32.0", plea, "X=42.0"])

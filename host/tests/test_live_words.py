@@ -17,7 +17,7 @@ from bpfrec_tools.live.parts.expressions import ALL, ALL_FRAMES, arguments_for, 
 from bpfrec_tools.live.parts.folder import Folder, made_settings
 from bpfrec_tools.live.parts.recorder import Recorder
 from bpfrec_tools.live.run.end_of_run import EndOfRun
-from support import judge, wait_for
+from support import judge, judge_same, program_at, wait_for
 
 KEEPS = "1,6 0 0 1,"
 # A recording of which nothing is asked.
@@ -140,8 +140,7 @@ NEEDS = "it needs a channel and a filter, as set 7 udp port 5004"
 )
 def test_why_a_line_is_refused(folder: Folder, line: str, why: str | None) -> None:
     folder.names = {1: "bus B"}
-    changes = Changes(folder, True, lambda _, listing: MadeFilter(listing))
-    judge(line, changes.why_refused(line.encode()) == why, changes.why_refused(line.encode()))
+    judge_same(line, Changes(folder, True, lambda _, listing: MadeFilter(listing)).why_refused(line.encode()), why)
 
 
 def test_what_the_recorder_refuses_of_a_file_is_said(folder: Folder) -> None:
@@ -196,12 +195,6 @@ def test_a_time_has_units(word: str) -> None:
     except Refusal:
         found = None
     judge(word, found == SECONDS.get(word), found)
-
-
-def program_at(path: Path, text: str) -> Path:
-    path.write_text(f"#!/bin/sh\n{text}\n")
-    path.chmod(0o755)
-    return path
 
 
 def tcpdump(work: Path) -> Path:

@@ -293,7 +293,6 @@ def test_a_packet_is_not_put_together_of_parts_of_two_streams(receiver: Receiver
 
 
 def test_a_packet_whose_parts_are_longer_is_damaged_once(receiver: Receiver) -> None:
-    """What follows it is none of it."""
     data = packet(1, [10])
     place = Part(1, data[13], 0)
     receiver.assembling.add(Datagram(0, place, data[:32]))

@@ -19,7 +19,6 @@ MANY = 3_000
 
 @pytest.mark.parametrize("step_at", [1, 999, 1_000, MANY - 1])
 def test_where_times_step_back_each_packet_is_looked_at(step_at: int) -> None:
-    """Wherever that is."""
     places = [Place(1, 10 * number - 20 * (number == step_at), number, 1, 0) for number in range(MANY)]
     judge("all are", places_in(places, [Range(50, 60)]) == places)
 

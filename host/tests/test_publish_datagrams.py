@@ -15,7 +15,7 @@ from bpfrec_tools.receive.assembling import Assembling
 from bpfrec_tools.receive.output import Files
 from bpfrec_tools.receive.window import MOST_BEHIND, WIDTH, Window
 from frames import packet_of
-from support import judge, judge_quietly
+from support import judge, judge_quietly, judge_same
 from whole_file import SETUP
 from whole_file_parts import parts_of, replaced, sample
 
@@ -88,8 +88,7 @@ def test_datagrams_have_all_packets_in_order(seed: int) -> None:
 def test_as_many_packets_as_fit_go_together() -> None:
     packet = packet_of(1, bytes(68), 0, 0x68, 0, True)
     judge_quietly("96 bytes", len(packet) == 96)
-    lengths = [len(it) for it in sent([packet] * 31, 1_444, 100)]
-    judge("15 of 96 bytes in 1,444", lengths == [1_444, 1_444, 100], lengths)
+    judge_same("15 of 96 bytes in 1,444", [len(it) for it in sent([packet] * 31, 1_444, 100)], [1_444, 1_444, 100])
     judge("one byte less takes 14", [len(it) for it in sent([packet] * 15, 1_443, 100)] == [1_348, 100])
 
 

@@ -15,7 +15,7 @@ import pytest
 from bpfrec_tools.cli.addresses import udp_address
 from bpfrec_tools.publish import sending
 from bpfrec_tools.publish.sending import Route, Sending, opened
-from support import LIVE, TOOLS, judge, judge_quietly, outcome
+from support import LIVE, TOOLS, judge, judge_quietly, judge_same, outcome
 
 ADDRESS = udp_address("127.0.0.1:50000")
 
@@ -169,8 +169,7 @@ def test_other_words_are_no_addresses(word: str) -> None:
 def test_a_group_gets_its_hops_and_its_interface() -> None:
     route = Route(udp_address("239.1.2.3:50000"), 7, "lo")
     with opened(route) as made:
-        ttl = made.getsockopt(socket.IPPROTO_IP, socket.IP_MULTICAST_TTL)
-        judge("hops", ttl == 7, ttl)
+        judge_same("hops", made.getsockopt(socket.IPPROTO_IP, socket.IP_MULTICAST_TTL), 7)
         chosen = made.getsockopt(socket.IPPROTO_IP, socket.IP_MULTICAST_IF, 12)
         judge_quietly("an interface", len(chosen) >= 4)
         judge("a buffer", made.getsockopt(socket.SOL_SOCKET, socket.SO_SNDBUF) >= 212_992)

@@ -19,12 +19,12 @@ from bpfrec_tools.publish.streaming import Streaming
 from drawn_recording import DrawnRecording, drawn_insns
 from frames import COMPUTER, FRAMES, body_of
 from ground import packets_in, write_facts
-from support import judge, judge_quietly
+from support import judge, judge_quietly, judge_same, program_at
 from whole_file import Origin, Setup
 from whole_file_parts import ORIGIN, parts_of, recorded, sample, sample_recording
 
 # Gives back what it is given, keeps SETUP, and says what it did.
-PLAYED = """#!/bin/sh
+PLAYED = """
 here=$(dirname "$0")
 cp "$3" "$here/setup_$(ls "$here" | wc -l).toml"
 cat
@@ -40,10 +40,7 @@ class Played:
     def __init__(self, work: Path, patch: pytest.MonkeyPatch, played: str = PLAYED, **more: Any) -> None:
         self.folder = work / "program"
         self.folder.mkdir()
-        program = self.folder / "bpfrec"
-        program.write_text(played)
-        program.chmod(0o755)
-        patch.setenv("BPFREC", str(program))
+        patch.setenv("BPFREC", str(program_at(self.folder / "bpfrec", played)))
         self.path = work / "flight;1.ch11"
         self.path.write_bytes(b"")
         self.lines: list[str] = []
@@ -198,11 +195,9 @@ def test_setup_names_the_channels_that_may_come(work: Path, monkeypatch: pytest.
     played = Played(work, monkeypatch, settings=settings)
     played.frames(1, 9, net=7)
     played.write()
-    recording = played.begin().recording
-    judge("one that goes on", recording.channels() == {1: 7, 2: 3, 8: 9}, recording.channels())
+    judge_same("one that goes on", played.begin().recording.channels(), {1: 7, 2: 3, 8: 9})
     played.tell(state="ended", settings=settings)
-    recording = played.begin().recording
-    judge("one that has ended", recording.channels() == {1: 7}, recording.channels())
+    judge_same("one that has ended", played.begin().recording.channels(), {1: 7})
     played.sent()
     (setup,) = played.setups()
     judge("as SETUP has it", setup["channel"] == [{"id": 1, "name": "eth0", "net": 7}], setup)
@@ -240,7 +235,7 @@ def test_a_stream_that_ends_early_says_why(work: Path, monkeypatch: pytest.Monke
     for frames in (1, 400):
         folder = work / str(frames)
         folder.mkdir()
-        played = Played(folder, monkeypatch, f"#!/bin/sh\n{ends}\n")
+        played = Played(folder, monkeypatch, ends)
         played.made.add_frames(1, [(5, 0, 16_000)] * 30)
         for _ in range(frames // 30):
             played.made.add_frames(1, [(5, 0, 16_000)] * 30)

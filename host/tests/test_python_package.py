@@ -15,7 +15,7 @@ import pytest
 from expected_facts import BEFORE_1970, TAI_37, THREE_ORIGINS, UNKNOWN_SCALE, facts_of_run, is_utc, moments_by
 from frames import FRAMES, body_of, frames_packet, numbered, packet_of, program_packet
 from small_recordings import FRAME, IN_ORDER, NOON, ONE_ORIGIN, counters, packet, recording, written
-from support import SECOND, judge, judge_quietly
+from support import SECOND, judge, judge_quietly, judge_same
 
 
 def placed(frame: bpfrec.Frame) -> tuple[int, int, bytes]:
@@ -79,8 +79,7 @@ def test_what_no_frame_with_its_check_sequence_is_is_skipped_and_counted(work: P
 
 def test_a_frame_has_the_version_that_was_in_force(work: Path) -> None:
     parts = [program_packet(1, 0), packet(1, [1]), program_packet(1, 1), program_packet(1, 5), packet(1, [2, 3])]
-    found = [it.version for it in bpfrec.open(written(work, b"".join(parts)))]
-    judge("the last before it", found == [0, 5, 5], found)
+    judge_same("the last before it", [it.version for it in bpfrec.open(written(work, b"".join(parts)))], [0, 5, 5])
 
 
 def test_frames_stand_packet_by_packet_or_by_time(work: Path) -> None:
@@ -147,8 +146,7 @@ def test_facts_have_names_origins_losses_and_marks(work: Path) -> None:
     origins = (bpfrec.Origin(0, NOON, "UTC", 0), bpfrec.Origin(17, NOON + 123, "TAI", 37))
     marks = (bpfrec.Mark(20, NOON + 123 + 2_000, "gear up"),)
     lost = {"dropped": 11, "missed": 2, "skipped": 3}
-    wanted = bpfrec.Facts("fc1", "bpfrec 0.1.0", {1: "eth0"}, origins, lost, marks)
-    judge("all of them", found == wanted, found)
+    judge_same("all of them", found, bpfrec.Facts("fc1", "bpfrec 0.1.0", {1: "eth0"}, origins, lost, marks))
     judge("without facts it is None", bpfrec.open(path, facts=False).facts is None)
 
 

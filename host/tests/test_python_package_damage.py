@@ -249,7 +249,6 @@ def public_of(thing: object) -> list[str]:
 
 
 def test_all_that_is_promised_says_what_it_means() -> None:
-    """Each name, and each public method and property, has a text; each field stands in that of its class."""
     judge("the names are there", sorted(bpfrec.__all__) == list(bpfrec.__all__))
     for name in bpfrec.__all__:
         thing = getattr(bpfrec, name)

@@ -14,7 +14,7 @@ import bpfrec
 import pytest
 from frames import FRAMES, body_of, packet_of, program_packet
 from small_recordings import FRAME, IN_ORDER, ONE_ORIGIN, counters, packet, recording, written
-from support import judge, judge_quietly
+from support import judge, judge_quietly, judge_same
 
 MANY = 3_000
 
@@ -134,8 +134,7 @@ def test_readings_at_once_count_what_they_skip_each_for_itself(work: Path) -> No
 def test_a_reading_is_an_iterator_that_keeps_its_recording_open(work: Path) -> None:
     reading = bpfrec.open(written(work, recording())).frames()
     gc.collect()
-    first = next(reading)
-    judge("it goes on", [first, *reading] == list(bpfrec.open(work / "x.ch11")))
+    judge_same("it goes on", [next(reading), *reading], list(bpfrec.open(work / "x.ch11")))
     judge("and is over", list(reading) == [] and next(reading, None) is None)
 
 

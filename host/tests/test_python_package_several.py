@@ -13,7 +13,7 @@ from drawn_recording import DrawnRecording
 from expected_facts import facts_of_run, moments_by
 from frames import FRAMES, body_of, numbered, packet_of, program_packet, with_check_sequence
 from small_recordings import counters
-from support import judge, judge_quietly
+from support import judge, judge_quietly, judge_same
 from whole_file import INDEX, SETUP, TIME, Origin, Setup, whole_file
 from whole_file_parts import ORIGIN, SAMPLE_SETUP, SECOND, parts_of, place_of, recorded, sample, sample_recording
 
@@ -146,18 +146,15 @@ def test_frames_of_several_recorders_stand_by_their_times(work: Path) -> None:
     times = [it.time_ns for it in found]
     judge("times rise", times == sorted(times, key=lambda it: it or 0) and len(times) == 5, times)
     judge("channels alternate", [it.channel for it in found] == [1, 2, 1, 2, 2], found)
-    in_order = [it.channel for it in opened.frames(by_time=False)]
-    judge("or one after the other", in_order == [1, 1, 2, 2, 2], in_order)
-    slice_of_both = opened.frames(begin=times[1], end=times[4])
-    judge("a slice is of both", list(slice_of_both) == found[1:4])
+    judge_same("or one after the other", [it.channel for it in opened.frames(by_time=False)], [1, 1, 2, 2, 2])
+    judge_same("a slice is of both", list(opened.frames(begin=times[1], end=times[4])), found[1:4])
 
 
 def test_recordings_without_facts_have_channels_of_their_own(work: Path) -> None:
     one, two = recorder(work, "1", {1: [10, 30]}, None), recorder(work, "2", {1: [20]}, None)
     opened = bpfrec.open(one, two)
     found = [(it.id, it.name, it.host, it.recorded_as, it.paths) for it in opened.channels]
-    wanted = [(1, "channel 1", "", 1, (str(one),)), (2, "channel 2", "", 1, (str(two),))]
-    judge("two", found == wanted, found)
+    judge_same("two", found, [(1, "channel 1", "", 1, (str(one),)), (2, "channel 2", "", 1, (str(two),))])
     judge("merged by their counters", counters(opened) == [(1, 10), (2, 20), (1, 30)])
 
 

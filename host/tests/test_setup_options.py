@@ -12,7 +12,7 @@ from bpfrec_tools.chapter11.options import attribute_of
 from expected_facts import facts_of_run
 from reading import SAMPLES
 from setups import CHAPTER11
-from support import PUBLISH, judge, outcome, run
+from support import PUBLISH, judge, outcome, program_at, run
 
 # Names that some reader takes for one of the setup record's own.
 KEPT = [
@@ -60,10 +60,8 @@ def test_attributes_that_some_reader_takes_for_lines_of_its_own_are_refused(work
 
 def test_setup_has_no_more_than_the_program_takes(work: Path) -> None:
     """Of origins, which are refused in words; and channels that the recording lacks are left out."""
-    recording, played = Path(shutil.copy(SAMPLES[1], work / "flight.ch11")), work / "played"
-    played.write_text('#!/bin/sh\ncat "$3" > setup\n')
-    played.chmod(0o755)
-    env = {**os.environ, "BPFREC": str(played)}
+    recording = Path(shutil.copy(SAMPLES[1], work / "flight.ch11"))
+    env = {**os.environ, "BPFREC": str(program_at(work / "played", 'cat "$3" > setup'))}
     known = facts_of_run([("1764590400.250000000", 0, None)])
     names = [{"interface": f"eth{it}", "channel": it} for it in range(1, 65_536)]
     (work / "flight.ch11.json").write_text(json.dumps({**known, "interfaces": names}))

@@ -11,7 +11,7 @@ import tomllib
 from frames import FRAMES, body_of, end_packet, packet_of, program_packet
 from setups import CHAPTER11
 from several_recorders import facts_by, in_run, recording_at, run_at
-from support import judge, judge_quietly, outcome
+from support import judge, judge_quietly, judge_same, outcome, program_at
 
 BEGUN = "1764590400.000000000"
 FAR = "the clock was set by over a second: frames before that have times by the clock as it was set then"
@@ -71,9 +71,7 @@ def test_those_of_a_run_stand_in_its_order_at_the_place_of_the_first(work: Path)
     recording_at(work / "two.ch11", [7], 7, facts_by("tap2", "eth0"))
     recording_at(work / "three.ch11", [8], 8, facts_by("tap3", "eth0"))
     words = ["two.ch11", names[2], "three.ch11", names[0], names[1]]
-    played = work / "played"
-    played.write_text(f'#!/bin/sh\nprintf "%s\\n" "$@" > {work}/given\n')
-    played.chmod(0o755)
+    played = program_at(work / "played", f'printf "%s\\n" "$@" > {work}/given')
     done = outcome(*CHAPTER11, *words, "all.ch10", cwd=work, env={**os.environ, "BPFREC": str(played)})
     judge_quietly("it is made", done.returncode == 0, done)
     given = (work / "given").read_text().split()
@@ -208,8 +206,7 @@ def times_of(work: Path, *noted: list[dict]) -> tuple[list, list[str]]:
 
 def test_a_clock_that_was_set_little_is_so_in_each_recording(work: Path) -> None:
     noted = [[origin(BEGUN)], [origin(BEGUN), origin("1764590401.000000000", 9)]]
-    found = times_of(work, *noted)
-    judge("as they were noted", found == (noted, []), found)
+    judge_same("as they were noted", times_of(work, *noted), (noted, []))
 
 
 def test_a_clock_that_was_set_far_is_so_in_the_recordings_before(work: Path) -> None:
@@ -217,8 +214,7 @@ def test_a_clock_that_was_set_far_is_so_in_the_recordings_before(work: Path) -> 
     far, more = "1764594000.000000000", "1764594000.500000000"
     noted = [[origin(BEGUN)], [origin(BEGUN), origin(far, 9)], [origin(BEGUN), origin(far, 9), origin(more, 20)]]
     found, said = times_of(work, *noted)
-    wanted = [[origin(far)], [origin(far)], [origin(far), origin(more, 20)]]
-    judge("the last ones", found == wanted, found)
+    judge_same("the last ones", found, [[origin(far)], [origin(far)], [origin(far), origin(more, 20)]])
     judge("each says so", said == [f"flight_0000{it}.ch11" for it in (1, 2, 3)], said)
 
 

@@ -8,7 +8,7 @@ import tomllib
 from expected_facts import TAI_37, THREE_ORIGINS, UNKNOWN_SCALE
 from reading import SAMPLES
 from setups import CHAPTER11, setup_by, with_facts
-from support import judge, outcome
+from support import judge, judge_same, outcome
 
 ONE: list[tuple] = [("1764590400.250000000", 0, None)]
 
@@ -132,5 +132,4 @@ def test_of_several_recordings_origins_before_a_clock_was_set_far_are_left_out(w
     done = outcome(*CHAPTER11, "--print-setup", *words, *recordings)
     said = "the clock was set by over a second: frames before that have times by the clock as it was set then"
     judge(name, (done.returncode, done.stderr) == (0, f"bpfrec export: {beside}: {said}\n" if is_said else ""), done)
-    found = [it["origins"] for it in tomllib.loads(done.stdout)["recording"]]
-    judge(f"{name}: origins", found == [[BEGUN], due], found)
+    judge_same(f"{name}: origins", [it["origins"] for it in tomllib.loads(done.stdout)["recording"]], [[BEGUN], due])

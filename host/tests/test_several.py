@@ -23,7 +23,7 @@ from expected_facts import facts_of_run
 from frames import end_packet, number_of, program_packet
 from pcapng_blocks import frames_in
 from small_recordings import ONE_ORIGIN, packet
-from support import CHECK, EXPORT, FOLLOW, INFO, TOOLS, judge, outcome
+from support import CHECK, EXPORT, FOLLOW, INFO, TOOLS, judge, judge_same, outcome
 
 MANY = 300
 LISTS = ("*", "+", argparse.REMAINDER)
@@ -154,8 +154,7 @@ def test_each_of_several_damaged_recordings_is_said(work: Path, pair: Pair) -> N
     checked = outcome(CHECK, "--no-audit", *both)
     wrong = [" wrong 0\n" not in it for it in checked.stdout.split("recording ")[1:]]
     judge("check has the sums of each", wrong == [it in damaged for it in both], checked)
-    statuses = [it.returncode for it in (done, told, checked)]
-    judge("the status of each", statuses == [int(bool(damaged))] * 3, statuses)
+    judge_same("the status of each", [it.returncode for it in (done, told, checked)], [int(bool(damaged))] * 3)
 
 
 def followed(work: Path, damaged: tuple[int, ...], channels: int = 2) -> list[Path]:

@@ -43,9 +43,7 @@ def test_a_request_of_a_byte_at_a_time_is_closed(flight: Flight, monkeypatch: py
 
 def test_a_client_that_reads_nothing_holds_up_no_other(work: Path, monkeypatch: pytest.MonkeyPatch) -> None:
     monkeypatch.setattr(server, "MOST_SECONDS", 0.5)
-    flight = Flight(work, wires_of(64), endpoint=endpoint_in("0"))
-    flight.begin()
-    flight.pass_seconds(60)
+    flight = Flight(work, wires_of(64), endpoint=endpoint_in("0")).flown(60)
     with contextlib.ExitStack() as stack:
         for _ in range(20):
             client = socket.socket()
@@ -79,7 +77,6 @@ def test_asking_and_being_answered_have_one_time_together(work: Path, monkeypatc
 
 
 def test_a_head_without_an_end_is_cut_where_it_is_too_long(flight: Flight) -> None:
-    """It is cut where it is too long, and not held until its time is over."""
     begin, sent = time.monotonic(), 0
     with connection(flight) as client, contextlib.suppress(ConnectionError):
         client.sendall(b"GET / HTTP/1.1\r\nX: ")
@@ -93,7 +90,6 @@ def threads() -> int:
 
 
 def test_two_hundred_silent_connections_hold_up_no_request(flight: Flight) -> None:
-    """Two hundred that say nothing, and among them one that asks."""
     before = threads()
     with contextlib.ExitStack() as stack:
         for at in range(200):
@@ -137,8 +133,6 @@ def test_the_run_is_not_slowed(flight: Flight) -> None:
 
 
 def test_a_thousand_requests_leave_no_memory_behind(flight: Flight) -> None:
-    """A thousand requests of all kinds leave nothing."""
-
     def turn(count: int) -> None:
         for at in range(count):
             raw(

@@ -13,7 +13,21 @@ from bpfrec_tools.live.status.alarms import Name
 from bpfrec_tools.live.status.as_json import kept_rates, offered_rates
 from bpfrec_tools.live.status.view import Second
 from schemas import FORMATS, faults, schema_of
-from scripted import BEGIN, Alarm, Counts, Flight, Setup, Status, View, Wire, alarms, as_json, metrics, wires_of
+from scripted import (
+    BEGIN,
+    Alarm,
+    Counts,
+    Flight,
+    Setup,
+    Status,
+    View,
+    Wire,
+    alarms,
+    as_json,
+    metrics,
+    told_of,
+    wires_of,
+)
 from support import judge, judge_quietly, outcome
 
 ODD_NAMES = [
@@ -29,11 +43,6 @@ ODD_NAMES = [
     "\\n",
     '"} 1\nx 2',
 ]
-
-
-def told_of(flight: Flight) -> tuple[View, tuple[Alarm, ...]]:
-    view = flight.status.model.view(flight.now())
-    return view, alarms.alarms_of(view, 65_536)
 
 
 @pytest.fixture(scope="module")
@@ -83,7 +92,6 @@ def test_the_status_is_as_its_schema_says(flights: dict) -> None:
 
 
 def test_the_schema_refuses_what_is_missing_unknown_or_changed(flights: dict) -> None:
-    """Whatever is taken out, put in or changed is seen."""
     schema, found = schema_of("status"), object_of(*told_of(flights["losing"]))
     changed = {
         "a key that is missing": {name: it for name, it in found.items() if name != "disk"},
@@ -109,7 +117,6 @@ def changed_history(found: dict) -> dict:
 
 @pytest.mark.parametrize("name", ODD_NAMES, ids=range(len(ODD_NAMES)))
 def test_odd_names_stand_in_the_texts_as_they_are(work: Path, name: str) -> None:
-    """Names that would break a text stand in it as they are, but for what has no UTF-8."""
     watched = Status(now=BEGIN)
     watched.recording_begun(1, str(work / f"x{name}".replace("/", "|")[:99]), [Setup(1, name)], BEGIN)
     watched.capture_counted(name, Counts(1, 2, 3, 4, 5, 6), BEGIN)

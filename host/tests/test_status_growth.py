@@ -61,7 +61,6 @@ def long_recording() -> bytes:
 
 @by_name
 def test_a_recording_that_is_cut_anywhere_is_read_as_far_as_it_is_whole(work: Path, sample: Path) -> None:
-    """At each length first what is whole, and then the rest."""
     data, path = sample.read_bytes(), work / "cut.ch11"
     wanted = wanted_of(data)
     for length in range(len(data) + 1):
@@ -91,7 +90,6 @@ def test_a_file_that_comes_later_is_waited_for(work: Path) -> None:
 
 
 def test_a_recording_by_the_recorder_is_followed_whole(work: Path) -> None:
-    """Of a recording by bpfrec record: frames, bytes, versions and ends."""
     if not BPFREC.exists():
         pytest.skip("it needs bin/bpfrec")
     feed = make_feed(work / "a.feed", 5_000)
@@ -112,7 +110,6 @@ def test_a_recording_by_the_recorder_is_followed_whole(work: Path) -> None:
 
 
 def test_a_file_that_is_cut_while_it_grows_is_read_on(work: Path) -> None:
-    """A recorder writes on where it was, also in a file that somebody cut."""
     path, one = work / "cut.ch11", frames(1, 4)
     path.write_bytes(one * 5)
     growing = Growth(str(path))
@@ -198,7 +195,6 @@ def test_what_cannot_be_opened_is_told(work: Path) -> None:
 
 
 def test_a_call_reads_a_bounded_number_of_packets(work: Path) -> None:
-    """A call reads a bounded number of packets, and of each a few bytes."""
     path, one = work / "many.ch11", frames(1, 200)
     path.write_bytes(one * 5_000)
     growing, counts = Growth(str(path)), []
@@ -213,9 +209,7 @@ def test_a_call_reads_a_bounded_number_of_packets(work: Path) -> None:
 
 def test_a_filter_that_keeps_nothing_is_an_alarm(work: Path) -> None:
     """It is an alarm before the recording ends, and in the recording it is so."""
-    flight = Flight(work, {1: Wire("eth0", kept=0), 2: Wire("eth1", kept=100)})
-    flight.begin()
-    flight.pass_seconds(60)
+    flight = Flight(work, {1: Wire("eth0", kept=0), 2: Wire("eth1", kept=100)}).flown(60)
     found = [(it.name, it.channel) for it in alarms.alarms_of(flight.status.model.view(flight.now()), 65_536)]
     judge("the channel whose filter keeps nothing is red, and no other", found == [("keeps_nothing", 1)], found)
     flight.end_recording()

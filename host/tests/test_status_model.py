@@ -26,7 +26,7 @@ from scripted import (
     view_of,
     wires_of,
 )
-from support import judge, judge_quietly, present
+from support import judge, judge_quietly, judge_same, present
 
 # ---- interfaces without frames
 
@@ -50,8 +50,7 @@ def test_what_was_kept_has_come(work: Path) -> None:
     channel = Channel(Setup(1, "eth0"), 0.0)
     channel.count(Counts(10, 640, 1, 0, 0, 5), 1.0)
     channel.keep(12, 768, 1.5)
-    found = channel.view(1.6)
-    judge("as many at least", found.counts == Counts(12, 768, 1, 0, 0, 5), found.counts)
+    judge_same("as many at least", channel.view(1.6).counts, Counts(12, 768, 1, 0, 0, 5))
     channel.count(Counts(30, 1_920, 1, 0, 0, 5), 2.0)
     judge("and then more", channel.view(2.1).counts == channel.counts)
 
@@ -62,9 +61,7 @@ def test_a_minute_of_two_channels_has_the_numbers_that_were_played(work: Path) -
         1: Wire("eth0", frames=400, kept=100, end=30),
         7: Wire("eth1", frames=500, kept=20, dropped=9, drops_at=(10, 11, 59), waited=40),
     }
-    flight = Flight(work, wires)
-    flight.begin()
-    flight.pass_seconds(75)
+    flight = Flight(work, wires).flown(75)
     one, seven = channel_of(flight, 1), channel_of(flight, 7)
     judge("a minute is kept, a second each", [len(it.history) for it in (one, seven)] == [60, 60])
     offered = [it.offered_frames for it in one.history]
@@ -72,8 +69,7 @@ def test_a_minute_of_two_channels_has_the_numbers_that_were_played(work: Path) -
     sizes = [it.offered_bytes for it in one.history]
     judge("and their bytes", sizes == pytest.approx([400.0 * FRAME_LENGTH] * 15 + [0.0] * 45), sizes)
     judge("all were kept", (one.kept_frames, one.kept_bytes) == (12_000, 12_000 * FRAME_LENGTH), one[:11])
-    kept = [it.kept_frames for it in one.history]
-    judge("as packets came", kept == [400.0] * 15 + [0.0] * 45, kept)
+    judge_same("as packets came", [it.kept_frames for it in one.history], [400.0] * 15 + [0.0] * 45)
     judge("the last frame is 45.3 s old", one.frame_age == pytest.approx(45.3), one.frame_age)
     holds = (seven.kept_frames, sum(it.kept_frames for it in seven.history)) == (7_400, 6_000)
     judge("a fifth was kept", holds, seven[:11])
@@ -105,18 +101,14 @@ def test_a_recording_has_its_name_its_length_and_its_time(work: Path) -> None:
 
 
 def test_the_rate_is_that_of_the_last_minute(work: Path) -> None:
-    flight = Flight(work, {1: Wire("eth0", frames=400, end=20)})
-    flight.begin()
-    flight.pass_seconds(90)
+    flight = Flight(work, {1: Wire("eth0", frames=400, end=20)}).flown(90)
     found = view_of(flight)
     judge("a recording that stands has no rate, and its disk has time", present(found.recording).bytes_per_second == 0)
     judge("for ever", present(found.disk).seconds_left is None)
 
 
 def test_a_disk_on_which_room_is_made_is_not_full_soon(work: Path) -> None:
-    flight = Flight(work, {1: Wire("eth0", frames=400)}, has_ring=True)
-    flight.begin()
-    flight.pass_seconds(10)
+    flight = Flight(work, {1: Wire("eth0", frames=400)}, has_ring=True).flown(10)
     found = view_of(flight)
     holds = present(found.disk).seconds_left is None and present(found.disk).free > 0
     judge("a disk on which room is made isn't full soon", holds)
@@ -151,8 +143,7 @@ def test_counts_that_go_back_lose_nothing(work: Path) -> None:
 
 
 def test_a_timer_that_wavers_meets_each_second_once(work: Path) -> None:
-    flight = Flight(work, {1: Wire("eth0")})
-    flight.begin()
+    flight = Flight(work, {1: Wire("eth0")}).flown()
     lengths = []
     for second in (0.999, 2.001, 2.7, 3.98, 5.02):
         flight.status.tick(BEGIN + second)
@@ -161,9 +152,7 @@ def test_a_timer_that_wavers_meets_each_second_once(work: Path) -> None:
 
 
 def test_a_late_tick_tells_a_loss_once(work: Path) -> None:
-    flight = Flight(work, {1: Wire("eth0", frames=400)})
-    flight.begin()
-    flight.pass_seconds(2)
+    flight = Flight(work, {1: Wire("eth0", frames=400)}).flown(2)
     flight.append(frames(1, 200) * 10)
     flight.second += 4
     flight.status.capture_counted("eth0", Counts(2_800, 0, 8, 0, 0, 0), flight.now())
@@ -176,10 +165,7 @@ def test_a_late_tick_tells_a_loss_once(work: Path) -> None:
 
 
 def test_without_lines_of_the_capture_nothing_is_made_up(work: Path) -> None:
-    """Where the capture tells nothing, nothing is made up."""
-    flight = Flight(work, {1: Wire("eth0", frames=400)})
-    flight.begin()
-    flight.pass_seconds(5)
+    flight = Flight(work, {1: Wire("eth0", frames=400)}).flown(5)
     for _ in range(5):
         flight.second += 1
         flight.status.tick(flight.now())
@@ -190,19 +176,15 @@ def test_without_lines_of_the_capture_nothing_is_made_up(work: Path) -> None:
 
 
 def test_packets_without_frames_are_no_kept_frames(work: Path) -> None:
-    flight = Flight(work, {1: Wire("eth0", kept=0)})
-    flight.begin()
+    flight = Flight(work, {1: Wire("eth0", kept=0)}).flown()
     for _ in range(20):
         flight.append(frames(1, 0))
         flight.pass_second()
-    found = channel_of(flight, 1).unkept
-    judge("aren't kept frames", found == (20, 10_000, 10_000 * FRAME_LENGTH), found)
+    judge_same("aren't kept frames", channel_of(flight, 1).unkept, (20, 10_000, 10_000 * FRAME_LENGTH))
 
 
 def test_a_channel_without_an_interface_has_no_offered_frames(work: Path) -> None:
-    flight = Flight(work, {1: Wire(None, frames=400)})
-    flight.begin()
-    flight.pass_seconds(5)
+    flight = Flight(work, {1: Wire(None, frames=400)}).flown(5)
     found = channel_of(flight, 1)
     judge("what it was offered isn't known", found.counts is None and found.unkept is None and found.frame_age is None)
     judge("what it kept is", found.kept_frames == 2_000)
@@ -240,7 +222,6 @@ def test_frames_of_both_files_count_while_the_first_one_ends(work: Path) -> None
 
 
 def test_an_ended_recording_has_the_length_that_its_recorder_tells(work: Path) -> None:
-    """It is the recorder's, where that tells it."""
     reports: list[tuple[list[str], int]] = [(["wrote 3 12345"], 12_345), ([], len(program(1, 0)))]
     for at, (report, wanted) in enumerate(reports):
         flight = Flight(work, {1: Wire("eth0")})
@@ -250,25 +231,20 @@ def test_an_ended_recording_has_the_length_that_its_recorder_tells(work: Path) -
 
 
 def test_a_new_recording_is_not_on_its_disk_yet(work: Path) -> None:
-    flight = Flight(work, {1: Wire("eth0")})
-    flight.begin()
-    flight.pass_second()
+    flight = Flight(work, {1: Wire("eth0")}).flown(1)
     flight.begin("next.ch11")
     judge("it wasn't forced to its disk yet", view_of(flight).sync.age is None)
 
 
 def test_a_recording_that_was_not_audited_is_told_and_counted(work: Path) -> None:
-    flight = Flight(work, {1: Wire("eth0")})
-    flight.begin()
-    flight.pass_second()
+    flight = Flight(work, {1: Wire("eth0")}).flown(1)
     flight.end_recording([])
     judge("a recording that wasn't audited is told so", view_of(flight).recordings[0].audit is None)
     judge("and counted", view_of(flight).audits == (0, 0, 1) and not view_of(flight).recordings[0].is_refused())
 
 
 def test_a_channel_that_has_ended_is_told(work: Path) -> None:
-    flight = Flight(work, {1: Wire("eth0"), 2: Wire("eth1")})
-    flight.begin()
+    flight = Flight(work, {1: Wire("eth0"), 2: Wire("eth1")}).flown()
     flight.append(end_packet(2, 5))
     flight.pass_second()
     judge("a channel that has ended is told", [it.has_ended for it in view_of(flight).channels] == [False, True])
@@ -280,9 +256,7 @@ def test_a_channel_that_has_ended_is_told(work: Path) -> None:
 
 
 def test_an_hour_takes_no_more_memory_than_ten_minutes(work: Path) -> None:
-    """An hour of 64 channels with a recording each minute takes no more than ten minutes."""
-    flight = Flight(work, wires_of(64))
-    flight.begin()
+    flight = Flight(work, wires_of(64)).flown()
 
     def minutes(count: int) -> None:
         for at in range(count):

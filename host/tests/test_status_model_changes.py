@@ -17,9 +17,7 @@ def version_of(flight: Flight) -> int:
 
 
 def test_a_new_filter_is_told_at_once(work: Path) -> None:
-    flight = Flight(work, {1: Wire("eth0")})
-    flight.begin()
-    flight.pass_second()
+    flight = Flight(work, {1: Wire("eth0")}).flown(1)
     judge("the first version is 0", version_of(flight) == 0)
     flight.status.filter_changed(1, 1, "udp")
     judge("one that was installed is told at once", version_of(flight) == 1)
@@ -34,9 +32,7 @@ def test_a_new_filter_is_told_at_once(work: Path) -> None:
 
 
 def test_a_filter_has_its_name_and_its_changes_over_the_whole_run(work: Path) -> None:
-    """Also in recordings that follow."""
-    flight = Flight(work, {1: Wire("eth0", filter="wire.txt"), 2: Wire("eth1")})
-    flight.begin()
+    flight = Flight(work, {1: Wire("eth0", filter="wire.txt"), 2: Wire("eth1")}).flown()
     judge("as it was given", [it.filter for it in view_of(flight).channels] == [("wire.txt", 0), ("all", 0)])
     flight.status.filter_changed(1, 1, "udp port 5004")
     flight.status.filter_changed(1, 2, "arp")
@@ -53,9 +49,7 @@ def test_a_filter_has_its_name_and_its_changes_over_the_whole_run(work: Path) ->
 
 def test_what_came_in_a_pause_is_spread_over_its_seconds(work: Path) -> None:
     """Of frames that came and frames that were kept, so that no second has the sum of all."""
-    flight = Flight(work, {1: Wire("eth0", frames=400, kept=50)})
-    flight.begin()
-    flight.pass_seconds(20)
+    flight = Flight(work, {1: Wire("eth0", frames=400, kept=50)}).flown(20)
     flight.pause(12)
     flight.pass_seconds(5)
     history = channel_of(flight, 1).history
@@ -68,9 +62,7 @@ def test_what_came_in_a_pause_is_spread_over_its_seconds(work: Path) -> None:
 
 def test_a_status_that_stood_still_itself_spreads_what_came(work: Path) -> None:
     """The lines of all these seconds come at once."""
-    flight = Flight(work, {1: Wire("eth0", frames=400)})
-    flight.begin()
-    flight.pass_seconds(20)
+    flight = Flight(work, {1: Wire("eth0", frames=400)}).flown(20)
     moments = flight.second
     for _ in range(15):
         flight.come()
@@ -85,8 +77,7 @@ def test_a_status_that_stood_still_itself_spreads_what_came(work: Path) -> None:
 
 
 def test_the_last_marks_are_shown_with_their_age(work: Path) -> None:
-    flight = Flight(work, {1: Wire("eth0")})
-    flight.begin()
+    flight = Flight(work, {1: Wire("eth0")}).flown()
     for number in range(40):
         flight.status.marked(
             Marked(str(flight.path), number, "2025-12-01T12:00:00.0000000Z", f"m{number}"), flight.now()

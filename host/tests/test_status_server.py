@@ -60,7 +60,6 @@ def test_json_is_that_of_the_run(flight: Flight) -> None:
 
 
 def test_what_was_told_last_is_told_with_its_age(flight: Flight) -> None:
-    """What a run that stands still has told last is told as old."""
     present(flight.status.server).answers.clock = lambda: flight.now() + 7.25
     judge("its age is told", json.loads(asked(flight)[2])["age"] == 7.2)
     judge("in the metrics too", b"bpfrec_status_age_seconds 7.25\n" in asked(flight, "/metrics")[2])
@@ -148,7 +147,6 @@ HOSTS = {
 
 @pytest.mark.parametrize("host", HOSTS)
 def test_a_name_that_leads_here_from_the_web_gets_nothing(flight: Flight, host: str) -> None:
-    """A page of the web whose name leads here gets nothing."""
     judge(f"Host: {host}", asked(flight, host=host)[0] == HOSTS[host])
 
 
@@ -216,7 +214,6 @@ def test_places_to_serve_at_are_read_and_others_refused() -> None:
 
 
 def test_a_port_that_cannot_be_had_is_refused_before_recording(flight: Flight, work: Path) -> None:
-    """It is refused before anything is recorded."""
     place = present(flight.status.server).endpoint
     with pytest.raises(status.NoServer) as refused:
         status.Status(endpoint=place)
@@ -277,9 +274,7 @@ def test_no_signal_comes_to_a_thread_of_the_server(flight: Flight) -> None:
 
 
 def test_the_server_ends_at_once(work: Path) -> None:
-    flight = Flight(work, {1: Wire("eth0")}, endpoint=status.endpoint_in("0"))
-    flight.begin()
-    flight.pass_second()
+    flight = Flight(work, {1: Wire("eth0")}, endpoint=status.endpoint_in("0")).flown(1)
     hanging = connection(flight)
     wait_for("it is taken", lambda: present(flight.status.server).open)
     begin = time.monotonic()

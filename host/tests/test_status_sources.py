@@ -33,7 +33,7 @@ from bpfrec_tools.live.status.view import (
     SyncView,
     View,
 )
-from support import judge, judge_quietly
+from support import judge, judge_quietly, judge_same
 
 COUNTS = Counts(201, 202, 203, 204, 205, 206)
 SECONDS = [
@@ -203,8 +203,7 @@ def test_what_was_lost_and_waited_is_told_once_each_by_its_own_count(passed: int
 @pytest.mark.parametrize("count", [0, 1, 255, 256, 4_095, 4_096, 43_690, 65_535])
 def test_a_packet_has_as_many_frames_and_bytes_as_it_says(count: int) -> None:
     header = Header(7, 0, 4 + 12 * count + 61, 0, 0, 0, 0x68, 0)
-    found = kept_by(header, count.to_bytes(4, "little"))
-    judge("these", found == Kept(7, count, 61), found)
+    judge_same("these", kept_by(header, count.to_bytes(4, "little")), Kept(7, count, 61))
 
 
 def test_what_is_sent_to_the_ground_is_that_of_all_publishers_of_a_run() -> None:

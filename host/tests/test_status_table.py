@@ -10,15 +10,13 @@ import termios
 import time
 from collections.abc import Iterator
 from pathlib import Path
-from typing import Any
 
 import pytest
 from bpfrec.formats.clock_state import ClockState
 from screen import Screen, columns_of
-from scripted import Flight, Terminal, View, Wire, alarms, table, wires_of
-from support import judge, judge_quietly
+from scripted import Flight, Terminal, Wire, table, told_of, wires_of
+from support import judge, judge_quietly, judge_same
 
-LIMIT = 65_536
 KEEPS_NOTHING = ("KEEPS", "NOTHING", "all")
 
 
@@ -63,18 +61,6 @@ def shown() -> Iterator[Shown]:
     made.close()
 
 
-def flown(work: Path, wires: dict[int, Wire], seconds: int = 70, **more: Any) -> Flight:
-    flight = Flight(work, wires, **more)
-    flight.begin()
-    flight.pass_seconds(seconds)
-    return flight
-
-
-def told_of(flight: Flight) -> tuple[View, tuple[alarms.Alarm, ...]]:
-    view = flight.status.model.view(flight.now())
-    return view, alarms.alarms_of(view, LIMIT)
-
-
 def plain(lines: list[str]) -> list[str]:
     return [re.sub(r"\x1b\[[0-9;]*m", "", it) for it in lines]
 
@@ -83,7 +69,7 @@ def plain(lines: list[str]) -> list[str]:
 
 
 def test_the_table_shows_the_run_the_disk_and_each_channel(work: Path) -> None:
-    flight = flown(work, {1: Wire("eth0", frames=400, kept=50), 22: Wire("eth1", frames=500, kept=0)})
+    flight = Flight(work, {1: Wire("eth0", frames=400, kept=50), 22: Wire("eth1", frames=500, kept=0)}).flown(70)
     lines = table.lines_of(*told_of(flight), 120, 30)
     found = plain(lines)
     size = f"{flight.path.stat().st_size / 1e6:.1f} MB"
@@ -123,7 +109,7 @@ def judge_report(flight: Flight, count: int) -> None:
 
 
 def test_a_clock_that_is_not_synchronised_stands_beside_the_recording(work: Path) -> None:
-    flight = flown(work, {1: Wire("eth0")})
+    flight = Flight(work, {1: Wire("eth0")}).flown(70)
     for state, is_told in ((ClockState(), False), (ClockState(True, 0.1), False), (ClockState(False, 0.1), True)):
         flight.status.clock_seen(state, None)
         line = plain(table.lines_of(*told_of(flight), 120, 30))[1]
@@ -132,7 +118,7 @@ def test_a_clock_that_is_not_synchronised_stands_beside_the_recording(work: Path
 
 
 def test_a_pipe_that_waits_is_a_warning_beside_the_graph(work: Path) -> None:
-    flight = flown(work, {1: Wire("eth0", waited=99), 2: Wire("eth1", waited=100)})
+    flight = Flight(work, {1: Wire("eth0", waited=99), 2: Wire("eth1", waited=100)}).flown(70)
     lines = table.lines_of(*told_of(flight), 120, 30)
     found = plain(lines)
     judge("a warning and an alarm", found[0] == "RECORDING, 1 ALARM, 1 warning", found)
@@ -148,7 +134,7 @@ def many(place: Path) -> Flight:
     """64 channels, of which one is silent and one has an odd name."""
     wires = wires_of(64)
     wires[40].end, wires[7].interface = 30, "\u202eshort\x1b[31m\u4e2d\u6587\u4e2d\u6587\u4e2d\u6587\u4e2d\u6587\u4e2d"
-    return flown(place, wires, 45)
+    return Flight(place, wires).flown(45)
 
 
 @pytest.mark.parametrize("width", [1, 20, 40, 79, 200])
@@ -172,8 +158,7 @@ def test_the_table_fits_each_width_and_height(many: Flight, width: int, height: 
 
 
 def test_the_table_is_written_in_its_place_with_lines_above_it(work: Path, shown: Shown) -> None:
-    """It is written again and again in its place, and lines stand above it."""
-    flight = flown(work, {1: Wire("eth0"), 2: Wire("eth1")}, 5)
+    flight = Flight(work, {1: Wire("eth0"), 2: Wire("eth1")}).flown(5)
     for second in range(20):
         flight.pass_second()
         judge_quietly("it has room", shown.terminal.draw(*told_of(flight)))
@@ -189,8 +174,7 @@ def test_the_table_is_written_in_its_place_with_lines_above_it(work: Path, shown
 
 
 def test_what_is_typed_stays_below_the_table(work: Path, shown: Shown) -> None:
-    """It stays below the table while it is typed, and the table stays in its place once it is entered."""
-    flight = flown(work, {1: Wire("eth0"), 2: Wire("eth1")}, 5)
+    flight = Flight(work, {1: Wire("eth0"), 2: Wire("eth1")}).flown(5)
     shown.terminal.draw(*told_of(flight))
     for typed in ("set ", "2 ", "file"):
         shown.read()
@@ -198,8 +182,7 @@ def test_what_is_typed_stays_below_the_table(work: Path, shown: Shown) -> None:
         flight.pass_second()
         shown.terminal.draw(*told_of(flight))
     rows = shown.read().split("\n")
-    wanted = plain(table.lines_of(*told_of(flight), 99, 29))
-    judge("what is typed stays", rows == [*wanted, "set 2 file"], rows)
+    judge_same("what is typed stays", rows, [*plain(table.lines_of(*told_of(flight), 99, 29)), "set 2 file"])
     for what in ("drawn", "said"):
         shown.screen.write("\n")
         shown.terminal.note_typed()
@@ -224,8 +207,7 @@ def test_lines_of_the_same_terminal_go_through_the_table(shown: Shown) -> None:
 
 
 def test_a_terminal_that_becomes_narrower_is_written_anew(work: Path, shown: Shown) -> None:
-    """A terminal that becomes narrower breaks the lines that stand there."""
-    flight = flown(work, {1: Wire("eth0"), 2: Wire("eth1")}, 5)
+    flight = Flight(work, {1: Wire("eth0"), 2: Wire("eth1")}).flown(5)
     shown.terminal.draw(*told_of(flight))
     shown.read()
     before = shown.screen.rows
@@ -241,8 +223,7 @@ def test_a_terminal_that_becomes_narrower_is_written_anew(work: Path, shown: Sho
 
 
 def test_a_terminal_that_nobody_reads_holds_up_nothing(work: Path, shown: Shown) -> None:
-    """A terminal that nobody reads takes no time of the run, and no memory; then it is right again."""
-    flight = flown(work, wires_of(20), 5)
+    flight = Flight(work, wires_of(20)).flown(5)
     begin, drawn = time.monotonic(), 0
     for _ in range(500):
         drawn += shown.terminal.draw(*told_of(flight))
@@ -258,13 +239,12 @@ def test_a_terminal_that_nobody_reads_holds_up_nothing(work: Path, shown: Shown)
 
 
 def test_the_stream_stays_blocking_for_other_programs(shown: Shown) -> None:
-    """The stream that others have is as it was."""
     judge("standard error still waits", os.get_blocking(shown.inner) and not os.get_blocking(shown.terminal.descriptor))
 
 
 def test_a_terminal_that_is_gone_raises_nothing(work: Path) -> None:
     gone = Shown()
-    flight = flown(work, {1: Wire("eth0")}, 5)
+    flight = Flight(work, {1: Wire("eth0")}).flown(5)
     os.close(gone.outer)
     judge("nothing is raised", gone.terminal.draw(*told_of(flight)) in (True, False))
     gone.terminal.close()
@@ -275,14 +255,13 @@ def test_a_terminal_that_is_gone_raises_nothing(work: Path) -> None:
 def test_without_a_terminal_nothing_is_written(
     work: Path, case: str, shown: Shown, monkeypatch: pytest.MonkeyPatch
 ) -> None:
-    """Elsewhere there is no table: nothing at all is written."""
     if case == "dumb":
         monkeypatch.setenv("TERM", "dumb")
     read, write = os.pipe()
     with open(work / "file", "wb") as file:
         streams = {"quiet": shown.inner, "dumb": shown.inner, "pipe": write, "file": file.fileno(), "closed": 999}
         made = Terminal(streams[case], case == "quiet")
-        flight = flown(work, {1: Wire("eth0")}, 5, terminal=made)
+        flight = Flight(work, {1: Wire("eth0")}, terminal=made).flown(5)
         told = (made.is_shown(), made.draw(*told_of(flight)), made.show(["x"]))
     os.close(write)
     judge(f"{case}: it says that there is none", told == (False, False, False), told)
@@ -292,7 +271,7 @@ def test_without_a_terminal_nothing_is_written(
 
 
 def test_each_tick_of_a_run_draws_the_table(work: Path, shown: Shown) -> None:
-    flight = flown(work, {1: Wire("eth0")}, 3, terminal=shown.terminal)
+    flight = Flight(work, {1: Wire("eth0")}, terminal=shown.terminal).flown(3)
     judge("each tick draws", shown.read().startswith("RECORDING\nflight.ch11  3 s  "), shown.read())
     shown.terminal.show(["said before the end"])
     shown.read()

@@ -5,10 +5,11 @@ import socket
 import subprocess
 from collections.abc import Iterator
 from pathlib import Path
+from typing import Any
 
 import pytest
 from bpfrec_tools.tell.command import line_of, socket_of
-from support import TOOLS, judge, outcome
+from support import TOOLS, judge, judge_same, outcome
 
 
 @pytest.fixture
@@ -22,6 +23,12 @@ def bound(work: Path) -> Iterator[Path]:
     os.chdir(before)
 
 
+def judge_refused(status: int, said: str, *words: object, **more: Any) -> None:
+    """Judges the status and what is said of words that no run takes."""
+    done = outcome(TOOLS / "tell", *words, **more)
+    judge_same(f"{words}", (done.returncode, done.stdout, done.stderr), (status, "", f"bpfrec tell: {said}\n"))
+
+
 @pytest.mark.parametrize(
     "name", ["flight.control", "flight.ch11", "flight", "flight_00003.ch11", "flight.toml", "other.toml", "other"]
 )
@@ -33,21 +40,16 @@ def test_the_socket_is_found_by_its_path_the_runs_name_or_its_settings(bound: Pa
 @pytest.mark.parametrize("name, beside", [("plain.ch11", "plain.control"), ("none", "none.control")])
 def test_where_there_is_none_the_name_is_said(bound: Path, name: str, beside: str) -> None:
     Path("plain.ch11").write_bytes(b"")
-    done = outcome(TOOLS / "tell", name, "status", cwd=bound)
     ended = ": the run has ended, and plain.ch11 is its last recording" if name != "none" else ""
-    line = f"bpfrec tell: {name}: nobody listens there, or at {beside}{ended}\n"
-    judge("nobody listens", (done.returncode, done.stderr) == (3, line), done)
+    judge_refused(3, f"{name}: nobody listens there, or at {beside}{ended}", name, "status", cwd=bound)
 
 
 def test_a_recording_that_was_written_tells_of_its_end(bound: Path) -> None:
     for number in (1, 2):
         Path(f"ended_{number:05}.ch11").write_bytes(b"")
     for name in ("ended", "ended.ch11", "ended_00002.ch11"):
-        done = outcome(TOOLS / "tell", name, "status", cwd=bound)
-        end = (
-            "nobody listens there, or at ended.control: the run has ended, and ended_00002.ch11 is its last recording\n"
-        )
-        judge(name, (done.returncode, done.stderr) == (3, f"bpfrec tell: {name}: {end}"), done)
+        end = "the run has ended, and ended_00002.ch11 is its last recording"
+        judge_refused(3, f"{name}: nobody listens there, or at ended.control: {end}", name, "status", cwd=bound)
 
 
 def test_a_line_ahead_of_its_run_is_put_in_order(bound: Path) -> None:
@@ -56,9 +58,7 @@ def test_a_line_ahead_of_its_run_is_put_in_order(bound: Path) -> None:
         ("set", "2", "arp", "flight.toml"): "flight.toml set 2 arp",
         ("next",): "RUN next",
     }.items():
-        done = outcome(TOOLS / "tell", *given, cwd=bound)
-        line = f"bpfrec tell: RUN comes first: bpfrec tell {order}\n"
-        judge(" ".join(given), (done.returncode, done.stderr) == (2, line), done)
+        judge_refused(2, f"RUN comes first: bpfrec tell {order}", *given, cwd=bound)
 
 
 def test_a_line_may_come_by_standard_input(bound: Path) -> None:
@@ -83,9 +83,8 @@ def test_the_socket_of_settings_in_another_folder(bound: Path, run: str) -> None
     folder = bound / "host2"
     (folder / "rec").mkdir(parents=True)
     (folder / "set.toml").write_text(f"[run]\n{run}\n")
-    done = outcome(TOOLS / "tell", "host2/set.toml", "status", cwd=bound)
-    line = f"bpfrec tell: host2/set.toml: nobody listens at {os.path.join('host2', MEANT[run])}\n"
-    judge("it is said", (done.returncode, done.stderr) == (3, line), done)
+    line = f"host2/set.toml: nobody listens at {os.path.join('host2', MEANT[run])}"
+    judge_refused(3, line, "host2/set.toml", "status", cwd=bound)
     (folder / "set.toml").write_text('[run]\nout = "o.ch11"\ncontrol = "flight.control"\n')
     judge("one in this folder", socket_of("host2/set.toml") == "flight.control")
     with socket.socket(socket.AF_UNIX) as listening:
@@ -95,9 +94,8 @@ def test_the_socket_of_settings_in_another_folder(bound: Path, run: str) -> None
 
 def test_settings_whose_run_is_no_table_are_refused(work: Path) -> None:
     (work / "set.toml").write_text("run = 3\n")
-    done = outcome(TOOLS / "tell", "set.toml", "status", cwd=work)
-    line = "bpfrec tell: set.toml: run: a number, and it must be a table, as [run] begins it\n"
-    judge("it says so", (done.returncode, done.stderr) == (2, line), done)
+    line = "set.toml: run: a number, and it must be a table, as [run] begins it"
+    judge_refused(2, line, "set.toml", "status", cwd=work)
 
 
 @pytest.mark.parametrize("wait", [["--wait=9"], ["--wait", "9"]])
@@ -125,21 +123,16 @@ def test_words_are_a_line(line: str) -> None:
 
 
 def test_an_empty_filter_is_refused() -> None:
-    """As a variable of the shell is that isn't set."""
-    done = outcome(TOOLS / "tell", "flight.ch11", "set", "1", "")
-    said = (2, "bpfrec tell: FILTER is empty; all keeps all frames\n")
-    judge("it opens no channel", (done.returncode, done.stderr) == said, done)
+    judge_refused(2, "FILTER is empty; all keeps all frames", "flight.ch11", "set", "1", "")
 
 
 def test_a_line_feed_in_a_line_is_refused() -> None:
-    done = outcome(TOOLS / "tell", "flight.ch11", "mark", "a\nstop")
-    said = (2, "bpfrec tell: LINE has a line feed, and so it is more than one\n")
-    judge("nothing is sent", (done.returncode, done.stderr) == said, done)
+    judge_refused(2, "LINE has a line feed, and so it is more than one", "flight.ch11", "mark", "a\nstop")
 
 
 def test_a_run_that_does_not_answer_is_waited_for_no_longer_than_is_said(bound: Path) -> None:
     with socket.socket(socket.AF_UNIX) as silent:
         silent.bind("silent.control")
         silent.listen()
-        done = outcome(TOOLS / "tell", "--wait=0.2", "silent.control", "status", cwd=bound, seconds=10)
-    judge("it says so", (done.returncode, done.stderr) == (3, "bpfrec tell: silent.control: it doesn't answer\n"), done)
+        line = "silent.control: it doesn't answer"
+        judge_refused(3, line, "--wait=0.2", "silent.control", "status", cwd=bound, seconds=10)

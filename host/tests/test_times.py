@@ -18,7 +18,7 @@ from bpfrec_tools.live.arguments import read
 from bpfrec_tools.receive import command as receive
 from bpfrec_tools.tell import command as tell
 from expected_facts import UNKNOWN_SCALE, facts_of_run
-from support import SECOND, judge, judge_quietly
+from support import SECOND, judge, judge_quietly, judge_same
 
 NO_TIMES = ("24:00:00", "23:60:00", "23:59:60", "3:00:00", "23:36", "23:36:10.", "23:36:10.1234567890", "23:36:10Z", "")
 NOON = "1764590400.250000000"  # 2025-12-01T12:00:00.25Z
@@ -36,8 +36,7 @@ def test_a_time_of_day_is_hours_minutes_and_seconds() -> None:
         "23:59:59.999999999": 86_400 * SECOND - 1,
         "01:00:00.5": 36_005 * SECOND // 10,
     }
-    found = {word: time_of_day(word) for word in table}
-    judge("each is as many nanoseconds", found == table, found)
+    judge_same("each is as many nanoseconds", {word: time_of_day(word) for word in table}, table)
     judge("and nothing else is one", not any(time_of_day(word) is not None for word in NO_TIMES))
 
 

@@ -7,7 +7,7 @@ from typing import NamedTuple
 
 import pytest
 from drawn_recording import DrawnRecording
-from support import judge, judge_quietly
+from support import judge, judge_quietly, judge_same
 from whole_file import MOST_NAMED, Origin, Setup, whole_file
 from whole_file_parts import (
     ORIGIN,
@@ -78,8 +78,7 @@ def test_an_origin_that_begins_just_ahead_of_a_second_is_right() -> None:
         for step in range(20):
             made.add_frames(1, [(begins + step * 10_000, 0, 60)])
         setup = Setup((Origin(0, 0), Origin(begins, 10**15 + 3_333_300)))
-        found = faults_of(bytes(whole_file(bytes(made.data), setup).data))
-        judge_quietly(f"{milliseconds} ms ahead", found == [], found)
+        judge_same(f"{milliseconds} ms ahead", faults_of(bytes(whole_file(bytes(made.data), setup).data)), [])
 
 
 def test_the_sample_is_right() -> None:
@@ -306,8 +305,7 @@ def test_damage_of_what_packets_hold_is_named_at_its_place(what: str) -> None:
 def test_an_end_of_a_run_may_be_last_whose_channel_was_quiet_in_the_last_recording() -> None:
     """It has the counts of the run, and the greatest counter of all, since it has none of its own."""
     parts = [it for it in parts_of(sample()) if it.kind != INDEX]
-    last = rebuilt(exchanged(-2, -3)(parts))
-    judge("behind that of a greater channel", faults_of(last) == [], faults_of(last))
+    judge_same("behind that of a greater channel", faults_of(rebuilt(exchanged(-2, -3)(parts))), [])
     less = rebuilt([*parts[:-2], parts[-2]._replace(counter=parts[-2].counter - 1), parts[-1]])
     judge("at the greatest counter alone", len(faults_of(less)) == 1, faults_of(less))
 

@@ -257,6 +257,25 @@ class World:
             self.wait(max(0.0, deadline - self.time) if deadline is not None else 1.0)
         raise AssertionError(f"it hangs: {self.said} {[it.recording.phase for it in self.played.values()]}")
 
+    def let_pass(self, seconds: float) -> None:
+        """Lets time go by, and what comes of it come."""
+        self.wait(seconds)
+        self.settle()
+
+    def signal_unheard(self) -> None:
+        """A signal of which nothing comes."""
+        self.machine.told_to_end(self.time)
+        self.consequences.clear()
+
+    def end(self) -> "World":
+        """Ends the run by a signal."""
+        self.machine.told_to_end(self.time)
+        return self.finished()
+
+    def finished(self) -> "World":
+        self.finish()
+        return self
+
     def end_own_feeds(self) -> None:
         for played in self.played.values():
             played.feeds_ended = True

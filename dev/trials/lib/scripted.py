@@ -135,6 +135,13 @@ class Flight:
         self.path.write_bytes(b"".join(program(channel, 0) for channel in self.wires))
         self.status.recording_begun(self.number, str(self.path), self.setups(), self.now())
 
+    def flown(self, seconds: int = 0) -> "Flight":
+        """The same with a recording that has gone on for so long."""
+        self.begin()
+        for _ in range(seconds):
+            self.pass_second()
+        return self
+
     def append(self, data: bytes) -> None:
         with open(self.path, "ab") as file:
             file.write(data)
@@ -199,6 +206,11 @@ class Flight:
 def view_of(flight: Flight) -> View:
     """What the status knows of a flight by now."""
     return flight.status.model.view(flight.now())
+
+
+def told_of(flight: Flight) -> tuple[View, tuple[alarms.Alarm, ...]]:
+    """That, with its alarms."""
+    return view_of(flight), alarms.alarms_of(view_of(flight), 65_536)
 
 
 def channel_of(flight: Flight, channel: int) -> ChannelView:

@@ -72,6 +72,20 @@ def judge_quietly(what: str, holds: object, details: object = "") -> None:
         judge(what, holds, details)
 
 
+def judge_same(what: str, found: object, wanted: object) -> None:
+    """Judges that what was found is what was wanted, and has both where it isn't."""
+    __tracebackhide__ = True
+    holds = found == wanted
+    judge_quietly(what, holds, "" if holds else f"{found!r} is not {wanted!r}")
+
+
+def program_at(path: Path, text: str, shell: str = "#!/bin/sh\n") -> Path:
+    """A program that a shell plays."""
+    path.write_text(f"{shell}{text}\n")
+    path.chmod(0o755)
+    return path
+
+
 def is_here(name: str) -> bool:
     """Whether root is who tries, or a program or what a build makes is there."""
     if name == ROOT_USER:
