@@ -3,43 +3,29 @@
 import pytest
 from bpfrec.formats.answers import Answer, Report, Verdict, file_fault, is_no_listing, is_output_fault
 
-REPORTS = {
+# The last of each kind of other lines is what `simulate` prints.
+OTHER_REPORTS = ["channel 1 versions 1 offered 10 kept 10 SourceEnd", "wrote 3", "wrote 3 832 ", "", "wrote 25eb0100"]
+REPORTS: dict[str, Report | None] = {
     "wrote 3 832": Report(3, 832),
     "wrote 0 0": Report(0, 0),
     "wrote 18446744073709551615 18446744073709551615": Report(2**64 - 1, 2**64 - 1),
-    "channel 1 versions 1 offered 10 kept 10 SourceEnd": None,
-    # What `simulate` prints, which has one number.
-    "wrote 25eb0100": None,
-    "wrote 3": None,
-    "wrote 3 832 ": None,
-    "": None,
+    **dict.fromkeys(OTHER_REPORTS),
 }
-ANSWERS = {
+OTHER_ANSWERS = ["run 2 Output 3 0", "file flight.ch11", "memory", "refused", "", "installed 1 0"]
+ANSWERS: dict[str, Answer | None] = {
     "installed 2 1 40": Answer(2, 1),
     "installed 65535 1023 281474976710655": Answer(65_535, 1_023),
     "refused 0 Line": Answer(0, None),
-    "refused 2 File": Answer(2, None),
-    "refused 2 Listing": Answer(2, None),
-    "refused 2 Program": Answer(2, None),
+    **dict.fromkeys(["refused 2 File", "refused 2 Listing", "refused 2 Program"], Answer(2, None)),
     "refused 7 NoChannel": Answer(7, None),
     "refused 1 VersionsFull": Answer(1, None),
-    "run 2 Output 3 0": None,
-    "file flight.ch11": None,
-    "memory": None,
-    # What `simulate` prints.
-    "installed 1 0": None,
-    "refused": None,
-    "": None,
+    **dict.fromkeys(OTHER_ANSWERS),
 }
+NO_VERDICTS = ["no 3 NotAccepted 2 0", "no 5 NoEnd 1", "read 1 Truncated 64", "yes", ""]
 VERDICTS = {
     "yes other 0": Verdict(0),
     "yes other 12": Verdict(12),
-    "no 3 NotAccepted 2 0": Verdict(None),
-    "no 5 NoEnd 1": Verdict(None),
-    "read 1 Truncated 64": Verdict(None),
-    "channel 1 programs 1 frames 10 offered 10": Verdict(None),
-    "yes": Verdict(None),
-    "": Verdict(None),
+    **dict.fromkeys([*NO_VERDICTS, "channel 1 programs 1 frames 10 offered 10"], Verdict(None)),
 }
 
 

@@ -164,8 +164,7 @@ def test_damage_is_passed_as_the_file_grows_byte_by_byte() -> None:
 
 
 def test_a_header_within_damage_is_believed_only_where_another_follows() -> None:
-    fake = frames(9, 1)[:HEADER_LENGTH]
-    followed = Followed(b"damage!!" + fake + bytes(40) + frames(1, 1) * 2 + bytes(2_000))
+    followed = Followed(b"damage!!" + frames(9, 1)[:HEADER_LENGTH] + bytes(40) + frames(1, 1) * 2 + bytes(2_000))
     followed.read_all()
     judge("it isn't", 9 not in followed.channels(), followed.channels())
 
@@ -252,8 +251,7 @@ def test_a_call_takes_as_many_packets_as_it_is_asked_for() -> None:
 
 @pytest.mark.parametrize("has_ended", [False, True], ids=["growing", "ended"])
 def test_a_call_meets_few_damaged_places(has_ended: bool) -> None:
-    bad = packet_of(1, TOO_MANY, 0, FRAMES, 0, False)
-    followed = Followed((bad + frames(1, 1) * 2) * 20)
+    followed = Followed((packet_of(1, TOO_MANY, 0, FRAMES, 0, False) + frames(1, 1) * 2) * 20)
     if has_ended:
         followed.follower.end(followed.size())
     judge("a few", len(followed.read_on()) == MOST_FAULTS)

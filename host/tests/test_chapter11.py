@@ -275,8 +275,7 @@ def test_an_output_whose_reader_has_left_is_said(recording: Path) -> None:
     plays = "trap 'echo killed >&2' PIPE; sleep 0.2; echo more || echo broken >&2; exit 3"
     script = f"{EXPORT} --as=chapter11 --origin 0 flight.ch11 out | :"
     played = program_at(recording.with_name("played"), PLAYED.replace("echo 'times", "true 'times"))
-    env = {**os.environ, "BPFREC": str(played), "PLAYED": plays}
-    done = outcome("sh", "-c", script, env=env, cwd=recording.parent)
+    done = outcome("sh", "-c", script, env={**os.environ, "BPFREC": str(played), "PLAYED": plays}, cwd=recording.parent)
     judge("it is told of a failed write", "broken" in done.stderr and "killed" not in done.stderr, done)
 
 

@@ -29,14 +29,12 @@ def checked(work: Path, recording: bytes) -> subprocess.CompletedProcess:
     """What check says of a recording, in bounded room."""
     path = work / "recording"
     path.write_bytes(recording)
-    bounded = lambda: resource.setrlimit(resource.RLIMIT_AS, (ROOM, ROOM))  # noqa: E731
-    return sums(path, preexec_fn=bounded, seconds=60)
+    return sums(path, preexec_fn=lambda: resource.setrlimit(resource.RLIMIT_AS, (ROOM, ROOM)), seconds=60)
 
 
 @pytest.mark.parametrize("length", [4, PIECE - 8, PIECE - 4, PIECE, PIECE + 4, 2 * PIECE - 4, 1_000_000])
 def test_sums_hold_at_both_sides_of_what_is_read_at_once(work: Path, length: int) -> None:
-    draw = random.Random(length)
-    body = draw.randbytes(length - 1) + b"\x5a"
+    body = random.Random(length).randbytes(length - 1) + b"\x5a"
     ahead = packet(b"ahead..."[:8]) * 300
     done = checked(work, ahead + packet(body))
     told = "packets 301 data checksums 301 without 0 wrong 0\n"
@@ -94,8 +92,7 @@ def test_a_whole_file_is_known_by_its_setup_record(work: Path) -> None:
 
 def test_a_setup_record_that_is_not_there_takes_no_memory(work: Path) -> None:
     """One of the longest that may be, of which the file has few bytes."""
-    head = header_of(0, (134_217_728, 134_217_700), 0, 0x01, 0, True)
-    done = checked(work, head + b"few.")
+    done = checked(work, header_of(0, (134_217_728, 134_217_700), 0, 0x01, 0, True) + b"few.")
     judge("it is cut", done.returncode == 1 and done.stdout.startswith("0 cut\n"), done)
 
 

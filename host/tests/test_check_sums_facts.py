@@ -199,8 +199,7 @@ def test_a_name_that_is_no_utf8_is_that_of_its_facts(work: Path) -> None:
         Path(os.fsdecode(path + b".json")).write_text(json.dumps(facts))
     paths = [os.fsencode(work) + b"/\xff" + name.encode() for name in names]
     done = sums(*paths, env={**os.environ, "LC_ALL": "C.UTF-8"})
-    last = "packets 0 data checksums 0 without 0 wrong 0"
-    empty = ["empty: there is no packet", last]
+    empty = ["empty: there is no packet", "packets 0 data checksums 0 without 0 wrong 0"]
     lines = [f"recording {work}/?_00001", "hash right", "before none", *empty]
     lines += [f"recording {work}/?_00002", "hash right", "before right: _00001", *empty]
     judge("each is right", (done.returncode, done.stdout.splitlines()) == (0, lines), done)

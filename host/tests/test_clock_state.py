@@ -18,29 +18,22 @@ RIGHT: dict[str, Any] = {"is_synchronised": True, "maximum_error": "0.000125"}
 CHRONY: dict[str, Any] = {"reference": "192.0.2.1", "state": "Normal"}
 PTP: dict[str, Any] = {"has_grandmaster": True, "grandmaster": "001122.fffe.334455"}
 UNSAID = "nobody says whether it is synchronised"
+OFF, WRONG = "off by at most 0.000125 s", {**RIGHT, "is_synchronised": False}
+SAID, OTHER = f"synchronised, {OFF}", {**CHRONY, "state": "Not synchronised"}
 STATES: list[tuple[Any, str]] = [
-    ({"kernel": RIGHT}, "synchronised, off by at most 0.000125 s"),
-    ({"kernel": RIGHT, "chrony": CHRONY}, "synchronised by chrony (192.0.2.1), off by at most 0.000125 s"),
+    ({"kernel": RIGHT}, SAID),
+    ({"kernel": RIGHT, "chrony": CHRONY}, f"synchronised by chrony (192.0.2.1), {OFF}"),
     (
         {"kernel": RIGHT, "chrony": CHRONY, "ptp": PTP},
-        "synchronised by chrony (192.0.2.1) and PTP (001122.fffe.334455), off by at most 0.000125 s",
+        f"synchronised by chrony (192.0.2.1) and PTP (001122.fffe.334455), {OFF}",
     ),
-    ({"kernel": {**RIGHT, "is_synchronised": False}}, "not synchronised"),
-    ({"kernel": {**RIGHT, "is_synchronised": False}, "ptp": PTP}, "not synchronised yet by PTP (001122.fffe.334455)"),
-    (
-        {"kernel": RIGHT, "chrony": {**CHRONY, "state": "Not synchronised"}, "ptp": {**PTP, "has_grandmaster": False}},
-        "synchronised, off by at most 0.000125 s",
-    ),
-    (
-        {"kernel": RIGHT, "chrony": {**CHRONY, "reference": "a\nb"}},
-        "synchronised by chrony (a?b), off by at most 0.000125 s",
-    ),
-    ({"kernel": RIGHT, "chrony": {**CHRONY, "reference": "a" * 256}}, "synchronised, off by at most 0.000125 s"),
-    (
-        {"kernel": RIGHT, "chrony": {"reference": 7}, "ptp": {**PTP, "grandmaster": None}},
-        "synchronised, off by at most 0.000125 s",
-    ),
-    ({"kernel": RIGHT, "chrony": 7, "ptp": []}, "synchronised, off by at most 0.000125 s"),
+    ({"kernel": WRONG}, "not synchronised"),
+    ({"kernel": WRONG, "ptp": PTP}, "not synchronised yet by PTP (001122.fffe.334455)"),
+    ({"kernel": RIGHT, "chrony": OTHER, "ptp": {**PTP, "has_grandmaster": False}}, SAID),
+    ({"kernel": RIGHT, "chrony": {**CHRONY, "reference": "a\nb"}}, f"synchronised by chrony (a?b), {OFF}"),
+    ({"kernel": RIGHT, "chrony": {**CHRONY, "reference": "a" * 256}}, SAID),
+    ({"kernel": RIGHT, "chrony": {"reference": 7}, "ptp": {**PTP, "grandmaster": None}}, SAID),
+    ({"kernel": RIGHT, "chrony": 7, "ptp": []}, SAID),
     ({"kernel": None}, UNSAID),
     ({"kernel": {"is_synchronised": 1, "maximum_error": "0.000125"}}, UNSAID),
     ({"kernel": {"is_synchronised": True, "maximum_error": 1}}, UNSAID),
@@ -57,15 +50,14 @@ def test_a_state_is_what_facts_say_of_it() -> None:
 
 def test_a_clock_is_worse_where_it_is_unsynchronised_unknown_or_off_by_more() -> None:
     right, at_most = ClockState(True, 0.01), "the clock may be off by 0.010000 s, and 0.009999 s are allowed"
-    table = [
+    for state, most, wanted in [
         (right, None, None),
         (right, 0.01, None),
         (right, 0.009999, at_most),
         (ClockState(False, 0.0), None, None),
         (ClockState(False, 0.0), 16.0, "the clock is not synchronised"),
         (ClockState(), 16.0, "nobody says whether the clock is synchronised"),
-    ]
-    for state, most, wanted in table:
+    ]:
         judge_quietly(f"{state} {most}: {state.fault(most)}", state.fault(most) == wanted)
 
 

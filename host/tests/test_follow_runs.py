@@ -32,11 +32,8 @@ def write(path: Path, begun: str, state: str = "recording", moment: float = 0) -
     [
         ("flight_00001.ch11", 1),
         ("flight_123456.ch11", 123_456),
-        ("flight.ch11", None),
-        ("flight_1.ch11", None),
-        ("flight_0000x.ch11", None),
-        ("flight_00001.ch10", None),
-        ("other_00001.ch11", None),
+        *[(it, None) for it in ("flight.ch11", "flight_1.ch11", "flight_0000x.ch11")],
+        *[(it, None) for it in ("flight_00001.ch10", "other_00001.ch11")],
     ],
 )
 def test_numbers_stand_in_names(name: str, number: int) -> None:

@@ -33,8 +33,7 @@ def imported(path: Path) -> Iterator[str]:
 
 def all_imported(folder: str) -> dict[str, list[str]]:
     """What each module below a folder imports, by its path below host/."""
-    paths = sorted((HOST / folder).rglob("*.py"))
-    return {str(it.relative_to(HOST)): [*imported(it)] for it in paths}
+    return {str(it.relative_to(HOST)): [*imported(it)] for it in sorted((HOST / folder).rglob("*.py"))}
 
 
 def top(name: str) -> str:
@@ -73,8 +72,7 @@ def test_each_folder_of_modules_is_a_package_that_git_keeps() -> None:
     folders = {it.parent for name in ("bpfrec", "bpfrec_tools", "second") for it in (HOST / name).rglob("*.py")}
     lacking = [it for it in folders if not (it / "__init__.py").exists()]
     judge("each is", len(folders) > 20 and not lacking, lacking)
-    lines = (ROOT / ".gitignore").read_text().splitlines()
-    made = {it.strip("/") for it in lines if it.endswith("/")}
+    made = {it.strip("/") for it in (ROOT / ".gitignore").read_text().splitlines() if it.endswith("/")}
     judge("none is called as what builds make", not made & {it.name for it in folders}, folders)
 
 

@@ -44,8 +44,7 @@ def test_an_alarm_begins_once_and_ends_once_whatever_it_says_meanwhile() -> None
     judge("one ends with its last text, another begins", told(changes, WAITS, DISK) == lines)
     other = SILENT._replace(channel=4)
     judge("of two channels there are two", len(told(changes, WAITS, DISK, SILENT, other)) == 2)
-    worse = WAITS._replace(level=Level.ALARM)
-    lines = told(changes, worse, DISK, SILENT, other)
+    lines = told(changes, WAITS._replace(level=Level.ALARM), DISK, SILENT, other)
     judge(
         "a warning that becomes an alarm is one",
         lines == [f"bpfrec live: warning ended: {WAITS.text}", f"bpfrec live: alarm: {WAITS.text}"],
@@ -216,12 +215,11 @@ def test_an_end_that_is_given_up_waits_for_nothing(work: Path, made: Callable[..
 
 
 def test_a_command_is_taken_apart_as_a_shell_does_it() -> None:
-    table = {
+    for text, wanted in {
         "mail -s alarm": ["mail", "-s", "alarm"],
         "'a program' \"$HOME\" b\\ c": ["a program", "$HOME", "b c"],
         "logger; reboot": ["logger;", "reboot"],
-    }
-    for text, wanted in table.items():
+    }.items():
         judge_quietly(text, arguments.command_words(text) == wanted, arguments.command_words(text))
     for text, why in {
         "": "needs a command",

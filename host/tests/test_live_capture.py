@@ -233,8 +233,7 @@ def test_the_capture_gets_the_descriptor_of_its_counts_and_is_quiet_beside_a_tab
     assert "--counts" not in capture.arguments() and "--quiet" not in capture.arguments()
     capture.read_counts(lambda *_: None)
     assert capture.counts
-    told = capture.arguments()
-    assert told[:5] == ["bin/capture", "--buffer", "4", "--counts", str(capture.counts.writer)]
+    assert capture.arguments()[:5] == ["bin/capture", "--buffer", "4", "--counts", str(capture.counts.writer)]
     capture.read_lines(lambda _: None, has_table=False)
     assert "--quiet" not in capture.arguments()
     capture.read_lines(lambda _: None, has_table=True)
@@ -247,7 +246,6 @@ def test_last_counts_are_printed_of_a_capture_that_was_killed_before_it_did(opti
     capture, loop = captured(*options)
     capture.read_counts(lambda *_: None)
     assert capture.counts
-    pipe = Written(capture.counts, loop)
-    pipe.write(f"{COUNTS.replace('1', '9')}\n{COUNTS}\n".encode())
+    Written(capture.counts, loop).write(f"{COUNTS.replace('1', '9')}\n{COUNTS}\n".encode())
     line = "bpfrec capture: e0 frames 1 bytes 2 dropped 3 missed 4 skipped 5 waited 6"
     assert capture.end(status) == ([line] if options and status > KILLED else [])

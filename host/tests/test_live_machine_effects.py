@@ -104,20 +104,22 @@ CUT = "out_1 has the packets that were written until then, which salvage copies"
 FULL = "bpfrec live: out_1 can't be written any more"
 END = "end_capture {0}, end_lines {0}, print_report {0}, audit {0}, conclude {0}"
 LAST, LAST_OF_TWO = END.format(1), END.format(2)
+TOLD = "print_report 1, audit 1, conclude 1"
+REST = f"end_lines 1, {TOLD}"
+CAPTURE_ENDED = "bpfrec live: capture has ended, and its interfaces with it"
+CAPTURE_DIED = f"bpfrec live: capture {WAS_KILLED}, and its interfaces with it"
+RECORDER_DIED = f"bpfrec live: bpfrec record {WAS_KILLED}: {CUT}"
+NEXT = f"{SECOND}, print_report 1, conclude 1, {LAST_OF_TWO}"
 RUNS: dict[str, tuple[Callable[[], World], str, int]] = {
     "single": (lambda: begun(SINGLE).end(), f"{BEGIN}, {LAST}", 0),
     # They are ended once more with their recorder.
-    "of_feeds": (
-        of_feeds,
-        "create 1, start_recorder 1, end_lines 1, end_lines 1, print_report 1, audit 1, conclude 1",
-        0,
-    ),
-    "handed_over": (handed_over, f"{BEGIN}, {SECOND}, print_report 1, audit 1, conclude 1, {LAST_OF_TWO}", 0),
+    "of_feeds": (of_feeds, f"create 1, start_recorder 1, end_lines 1, {REST}", 0),
+    "handed_over": (handed_over, f"{BEGIN}, {SECOND}, {TOLD}, {LAST_OF_TWO}", 0),
     "without_a_next": (without_a_next, f"{BEGIN}, create 2, start_recorder 2, {LAST}", 0),
     "full_disk": (
         lambda: full_disk(ROTATING),
         f"{BEGIN}, {FULL}: the next recording begins once there is room, hold_capture 1, end_lines 1, "
-        f"kill_recorder 1, forget_out 1, {SECOND}, print_report 1, conclude 1, {LAST_OF_TWO}",
+        f"kill_recorder 1, forget_out 1, {NEXT}",
         1,
     ),
     "full_disk_of_one": (
@@ -127,34 +129,22 @@ RUNS: dict[str, tuple[Callable[[], World], str, int]] = {
     ),
     "killed_recorder": (
         killed_recorder,
-        f"{BEGIN}, bpfrec live: bpfrec record {WAS_KILLED}: {CUT}, bpfrec live: the next recording begins, hold_capture 1, "
-        f"end_lines 1, {SECOND}, print_report 1, conclude 1, {LAST_OF_TWO}",
+        f"{BEGIN}, {RECORDER_DIED}, bpfrec live: the next recording begins, hold_capture 1, end_lines 1, {NEXT}",
         137,
     ),
-    "capture_that_ends_alone": (
-        capture_that_ends_alone,
-        f"{BEGIN}, bpfrec live: capture has ended, and its interfaces with it, end_lines 1, print_report 1, audit 1, conclude 1",
-        1,
-    ),
-    "dead_capture": (
-        dead_capture,
-        f"{BEGIN}, bpfrec live: capture {WAS_KILLED}, and its interfaces with it, end_lines 1, print_report 1, audit 1, "
-        "conclude 1",
-        1,
-    ),
+    "capture_that_ends_alone": (capture_that_ends_alone, f"{BEGIN}, {CAPTURE_ENDED}, {REST}", 1),
+    "dead_capture": (dead_capture, f"{BEGIN}, {CAPTURE_DIED}, {REST}", 1),
     "dead_capture_at_the_start": (
         dead_capture_at_the_start,
-        f"start_recorder 1, start_capture 1, bpfrec live: capture {WAS_KILLED}, and its interfaces with it, create 1, "
-        "point_to 1, end_lines 1, open_pipes 1, print_report 1, audit 1, conclude 1",
+        f"start_recorder 1, start_capture 1, {CAPTURE_DIED}, create 1, point_to 1, end_lines 1, open_pipes 1, {TOLD}",
         1,
     ),
     "refused_capture": (refused_capture, "start_recorder 1, start_capture 1, kill_recorder 1", 3),
     "refused_out": (refused_out, "start_recorder 1, start_capture 1, create 1, kill_capture 1, kill_recorder 1", 3),
     "hurried": (
         hurried,
-        f"{BEGIN}, end_capture 1, end_capture 1, kill_capture 1, bpfrec live: capture {WAS_KILLED}, and its interfaces with "
-        f"it, end_lines 1, kill_recorder 1, kill_audit 1, bpfrec live: bpfrec record {WAS_KILLED}: {CUT}, print_report 1, "
-        "conclude 1",
+        f"{BEGIN}, end_capture 1, end_capture 1, kill_capture 1, {CAPTURE_DIED}, end_lines 1, kill_recorder 1, "
+        f"kill_audit 1, {RECORDER_DIED}, print_report 1, conclude 1",
         137,
     ),
     "unprinted": (unprinted, f"{BEGIN}, {LAST}", 3),

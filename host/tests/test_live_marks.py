@@ -57,8 +57,7 @@ class World:
 
     def __init__(self, work: Path, origin: str | None = None) -> None:
         self.work, self.said = work, []  # type: tuple[Path, list[str]]
-        moment = origin or f"{time.time():.9f}"
-        self.events = SimpleNamespace(origins=[Origin(moment, 0, None, "UTC", None)])
+        self.events = SimpleNamespace(origins=[Origin(origin or f"{time.time():.9f}", 0, None, "UTC", None)])
         self.marks = Marks(cast(Events, self.events), True, lambda *_: None, self.said.append)
 
     def recording(self, number: int, has_facts: bool = True) -> Any:

@@ -141,8 +141,7 @@ def test_a_next_recording_has_room_from_a_mebibyte_on(
     work: Path, monkeypatch: pytest.MonkeyPatch, room: int, has_room: bool
 ) -> None:
     monkeypatch.setattr(outputs, "room_beside", lambda _: room)
-    found = Recordings.has_room(cast(Recordings, None), Recording(1, "out"))
-    judge("it has", found == has_room and ROOM == 1 << 20)
+    judge("it has", Recordings.has_room(cast(Recordings, None), Recording(1, "out")) == has_room and ROOM == 1 << 20)
 
 
 @pytest.mark.parametrize("ending", ["", ".json", ".json.sig", ".ch10"], ids=["out", "facts", "signature", "whole"])

@@ -41,7 +41,7 @@ def test_interfaces_and_their_filters_are_taken_apart(work: Path) -> None:
     (work / "old.ch11").write_bytes(b"\x25\xeb\0\0")
     (work / "empty.ch11").write_bytes(b"")
     settings, old = str(work / "settings"), str(work / "old.ch11")
-    table = [
+    for given, wanted in [
         (["s.toml", "out", "eth0=1"], ("s.toml", "out", [("eth0", 1, None)])),
         ([settings, "out", "eth0=1"], (settings, "out", [("eth0", 1, None)])),
         ([old, "eth0=7"], (None, old, [("eth0", 7, None)])),
@@ -55,8 +55,7 @@ def test_interfaces_and_their_filters_are_taken_apart(work: Path) -> None:
             (None, "new.ch11", [("lo", 2, None), ("e", 3, "tcp[0] = 5"), ("f", 1, None)]),
         ),
         (["s.toml", "dir/a=1", "eth0=1"], ("s.toml", "dir/a=1", [("eth0", 1, None)])),
-    ]
-    for given, wanted in table:
+    ]:
         found = operands.operands_of(given)
         routes = [tuple(it) for it in found.routes]
         judge_quietly(f"{given}: {found}", (found.settings, found.out, routes) == wanted)

@@ -178,8 +178,7 @@ def test_a_packet_of_which_the_ground_has_a_part_is_finished(monkeypatch: pytest
         publish, "Streaming", lambda *_: Played(calls, late=0, others=0, recording=Played([], path="x"))
     )
     monkeypatch.setattr(publish, "next_of", lambda *_: None)
-    size = Played([], size_now=lambda: 9)
-    read = Played(calls, file=size, waiting=[1], follower=Played([]), leave_rest=lambda: 0)
+    read = Played(calls, file=Played([], size_now=lambda: 9), waiting=[1], follower=Played([]), leave_rest=lambda: 0)
     made.publish(cast(Any, read))
     judge("ahead of what is left", calls[-3:] == ["finish_packet", "leave_rest", "end"], calls)
 
@@ -195,20 +194,6 @@ def test_ends_of_channels_are_noted_by_publish(work: Path) -> None:
     found.close()
 
 
-@pytest.mark.parametrize("is_forced", [True, False])
-def test_a_socket_that_sends_has_more_room_than_others(is_forced: bool, monkeypatch: pytest.MonkeyPatch) -> None:
-    """As much as the system allows, also where nobody may have more."""
-    if not is_forced:
-        monkeypatch.setattr(sending, "SO_SNDBUFFORCE", 32_000)
-    with socket.socket(socket.AF_INET, socket.SOCK_DGRAM) as plain:
-        usual = plain.getsockopt(socket.SOL_SOCKET, socket.SO_SNDBUF)
-    with sending.opened(sending.Route(udp_address("127.0.0.1:9"), 1, None)) as made:
-        found = made.getsockopt(socket.SOL_SOCKET, socket.SO_SNDBUF)
-        judge("more", found > usual, (found, usual))
-        judge("it isn't waited for, and may go to all", not made.getblocking())
-        judge("broadcasts", made.getsockopt(socket.SOL_SOCKET, socket.SO_BROADCAST) == 1)
-
-
 # ---- salvage
 
 
@@ -222,24 +207,38 @@ def test_salvage_names_each_gap_of_numbers(work: Path, gaps: tuple[int, ...]) ->
             packets_of(program_packet(1, 0) + b"".join(parts) + end_packet(1, 5)), out, lines.append
         )
     named = [it.split()[:6] for it in lines if it.startswith("missing ")]
-    wanted = [["missing", "1", "of", "1", "from", str(it)] for it in gaps]
-    judge("each", (is_whole, named) == (not gaps, wanted), lines)
+    judge("each", (is_whole, named) == (not gaps, [["missing", "1", "of", "1", "from", str(it)] for it in gaps]), lines)
 
 
 # ---- receive
 
 
+def sends(port: int) -> socket.socket:
+    return sending.opened(sending.Route(udp_address(f"127.0.0.1:{port}"), 1, None))
+
+
+def receives(port: int) -> socket.socket:
+    return source.opened(udp_address(f"127.0.0.1:{port}"), None)
+
+
 @pytest.mark.parametrize("is_forced", [True, False])
-def test_a_socket_that_receives_has_more_room_than_others(is_forced: bool, monkeypatch: pytest.MonkeyPatch) -> None:
+@pytest.mark.parametrize("module, opened, buffer", [(sending, sends, "SNDBUF"), (source, receives, "RCVBUF")])
+def test_a_socket_has_more_room_than_others(
+    is_forced: bool, module: Any, opened: Callable[[int], socket.socket], buffer: str, monkeypatch: pytest.MonkeyPatch
+) -> None:
+    """As much as the system allows, also where nobody may have more."""
     if not is_forced:
-        monkeypatch.setattr(source, "SO_RCVBUFFORCE", 32_000)
+        monkeypatch.setattr(module, f"SO_{buffer}FORCE", 32_000)
+    option = getattr(socket, f"SO_{buffer}")
     with socket.socket(socket.AF_INET, socket.SOCK_DGRAM) as plain:
-        usual = plain.getsockopt(socket.SOL_SOCKET, socket.SO_RCVBUF)
+        usual = plain.getsockopt(socket.SOL_SOCKET, option)
         plain.bind(("127.0.0.1", 0))
         port = plain.getsockname()[1]
-    with source.opened(udp_address(f"127.0.0.1:{port}"), None) as made:
-        found = made.getsockopt(socket.SOL_SOCKET, socket.SO_RCVBUF)
-        judge("more", found > usual and not made.getblocking(), (found, usual))
+    with opened(port) as made:
+        found = made.getsockopt(socket.SOL_SOCKET, option)
+        judge("more, and it isn't waited for", found > usual and not made.getblocking(), (found, usual))
+        is_to_all = made.getsockopt(socket.SOL_SOCKET, socket.SO_BROADCAST) == 1
+        judge("what sends may send broadcasts", is_to_all or module is source)
 
 
 def test_two_may_listen_to_a_group_and_not_to_an_address() -> None:

@@ -114,8 +114,7 @@ def test_another_route_is_found_once_there_is_one(monkeypatch: pytest.MonkeyPatc
 
 
 def test_a_line_of_a_reason_comes_each_five_seconds_at_most(monkeypatch: pytest.MonkeyPatch) -> None:
-    played = Played(*[errno.EAGAIN] * 100, errno.EPERM)
-    world = World(monkeypatch, played)
+    world = World(monkeypatch, Played(*[errno.EAGAIN] * 100, errno.EPERM))
     for _ in range(100):
         world.now += 0.1
         world.send(b"x")
@@ -123,55 +122,29 @@ def test_a_line_of_a_reason_comes_each_five_seconds_at_most(monkeypatch: pytest.
     world.send(b"y")
     judge("another reason has its own", world.lines[2:] == ["operation not permitted: datagrams lost: 1"], world.lines)
     world.sending.end()
-    said = sum(int(it.split()[-1]) for it in world.lines)
-    judge("all are said", said == 101, world.lines)
+    judge("all are said", sum(int(it.split()[-1]) for it in world.lines) == 101, world.lines)
 
 
-@pytest.mark.parametrize(
-    "word, text",
-    [
-        ("192.0.2.1:50000", "192.0.2.1:50000"),
-        ("[::1]:5", "[::1]:5"),
-        ("[fe80::1%eth0]:50000", "[fe80::1%eth0]:50000"),
-        ("239.1.2.3:65535", "239.1.2.3:65535"),
-    ],
-)
-def test_addresses_are_read(word: str, text: str) -> None:
+@pytest.mark.parametrize("word", ["192.0.2.1:50000", "[::1]:5", "[fe80::1%eth0]:50000", "239.1.2.3:65535"])
+def test_addresses_are_read(word: str) -> None:
     found = udp_address(word)
-    judge(word, str(found) == text and found.is_multicast() == word.startswith("239"))
+    judge(word, str(found) == word and found.is_multicast() == word.startswith("239"))
 
 
-@pytest.mark.parametrize(
-    "word",
-    [
-        "",
-        "192.0.2.1",
-        "192.0.2.1:0",
-        "192.0.2.1:65536",
-        "host:5",
-        "::1:5",
-        "[::1]",
-        "[192.0.2.1]:5x",
-        "256.0.0.1:5",
-        "1:2",
-    ],
-)
+NO_ADDRESSES = "192.0.2.1 192.0.2.1:0 192.0.2.1:65536 host:5 ::1:5 [::1] [192.0.2.1]:5x 256.0.0.1:5 1:2"
+
+
+@pytest.mark.parametrize("word", ["", *NO_ADDRESSES.split()])
 def test_other_words_are_no_addresses(word: str) -> None:
-    why = (
-        "no name is looked up, so it needs ADDRESS:PORT"
-        if word == "host:5"
-        else f"{re.escape(word)}: needs ADDRESS:PORT"
-    )
-    with pytest.raises(argparse.ArgumentTypeError, match=why):
+    why = "no name is looked up, so it needs" if word == "host:5" else f"{re.escape(word)}: needs"
+    with pytest.raises(argparse.ArgumentTypeError, match=f"{why} ADDRESS:PORT"):
         udp_address(word)
 
 
 def test_a_group_gets_its_hops_and_its_interface() -> None:
-    route = Route(udp_address("239.1.2.3:50000"), 7, "lo")
-    with opened(route) as made:
+    with opened(Route(udp_address("239.1.2.3:50000"), 7, "lo")) as made:
         judge_same("hops", made.getsockopt(socket.IPPROTO_IP, socket.IP_MULTICAST_TTL), 7)
-        chosen = made.getsockopt(socket.IPPROTO_IP, socket.IP_MULTICAST_IF, 12)
-        judge_quietly("an interface", len(chosen) >= 4)
+        judge_quietly("an interface", len(made.getsockopt(socket.IPPROTO_IP, socket.IP_MULTICAST_IF, 12)) >= 4)
         judge("a buffer", made.getsockopt(socket.SOL_SOCKET, socket.SO_SNDBUF) >= 212_992)
     with pytest.raises(OSError):
         opened(Route(udp_address("239.1.2.3:50000"), 1, "none0"))

@@ -252,8 +252,7 @@ def test_a_recording_that_is_cut_meanwhile_is_said(work: Path, monkeypatch: pyte
     played.frames(1, 7)
     played.frames(1, 8)
     cut = len(played.write()) // 2
-    streaming = played.begin()
-    streaming.recording.read_on()
+    played.begin().recording.read_on()
     os.truncate(played.path, cut + 30)
     with pytest.raises(Broken, match=f"read 1 Truncated {cut}"):
         played.sent()

@@ -264,8 +264,7 @@ def test_channels_filters_and_ends_are_those_of_the_recording(work: Path) -> Non
     ]
     opened = bpfrec.open(written(work, recording(), ONE_ORIGIN, filters=filters))
     path = str(work / "x.ch11")
-    first = bpfrec.Channel(1, "eth0", "fc1", 1, (path,), "eth0")
-    channels = (first, bpfrec.Channel(2, "channel 2", "fc1", 2, (path,)))
+    channels = (bpfrec.Channel(1, "eth0", "fc1", 1, (path,), "eth0"), bpfrec.Channel(2, "channel 2", "fc1", 2, (path,)))
     judge("channels", opened.channels == channels, opened.channels)
     judge("the end", opened.ends == (bpfrec.End(1, 4, 4, path),), opened.ends)
     wanted = tuple(

@@ -215,9 +215,7 @@ def test_damage_of_one_recording_is_that_of_its_file(work: Path) -> None:
 def test_a_recording_beside_a_whole_file_is_merged_by_time(work: Path) -> None:
     made = DrawnRecording()
     made.add_frames(5, [(1_000, 0, 60)])
-    data = bytes(whole_file(bytes(made.data), SAMPLE_SETUP).data)
-    whole = written(work / "x.ch10", data)
+    whole = written(work / "x.ch10", bytes(whole_file(bytes(made.data), SAMPLE_SETUP).data))
     other = recorder(work, "1", {5: [2_000]}, "1764590400.250000123", host="fc2")
-    opened = bpfrec.open(other, whole)
-    found = [(it.channel, it.time_ns) for it in opened]
+    found = [(it.channel, it.time_ns) for it in bpfrec.open(other, whole)]
     judge("it is", found == [(1, ORIGIN // 100 * 100 + 100_000), (5, ORIGIN + 200_000)], found)

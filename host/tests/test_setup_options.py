@@ -15,30 +15,10 @@ from setups import CHAPTER11
 from support import PUBLISH, judge, outcome, program_at, run
 
 # Names that some reader takes for one of the setup record's own.
-KEPT = [
-    *(
-        "R-1\\N",
-        "R-1\\N ",
-        " r-1\\n",
-        "R-01\\N",
-        "R-1\\COM",
-        "g\\pn",
-        "G\\0106",
-        "R-1\\TK1-2",
-        "R-1\\TK1-02",
-        "r-1\\TK1-2",
-    ),
-    *(
-        " R-1\\TK1-2",
-        "R-1\\TK1-2 ",
-        "R-1\\TK1-9",
-        "R-1\\TK1-0",
-        "R-1\\TK1-",
-        "R-1\\CDT-03",
-        "R-01\\DSI-3",
-        "R-1\\ENAM-2-1",
-    ),
-]
+KEPT = (
+    r"R-1\N|R-1\N | r-1\n|R-01\N|R-1\COM|g\pn|G\0106|R-1\TK1-2|R-1\TK1-02|r-1\TK1-2| R-1\TK1-2|R-1\TK1-2 |R-1\TK1-9"
+    r"|R-1\TK1-0|R-1\TK1-|R-1\CDT-03|R-01\DSI-3|R-1\ENAM-2-1"
+).split("|")
 
 
 def test_attributes_that_some_reader_takes_for_lines_of_its_own_are_refused(work: Path) -> None:

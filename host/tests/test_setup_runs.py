@@ -153,8 +153,7 @@ def test_names_of_what_is_missing_are_cleaned(work: Path) -> None:
     with_facts(work / names[2], before=None)
     found = setup_of(work, "--gaps", names[0], names[2])["attributes"]
     judge("as in setup records", found[0].endswith(" missing: a_b__.ch11"), found)
-    line = f"{names[0]}: next missing: a_b__.ch11: --gaps makes a file without it"
-    refused(work, line, names[0], names[2])
+    refused(work, f"{names[0]}: next missing: a_b__.ch11: --gaps makes a file without it", names[0], names[2])
 
 
 # ---- channels

@@ -19,49 +19,37 @@ def origin(counter: int, text: str, **scale: object) -> dict[str, object]:
 
 TAI, UNKNOWN = {"scale": "TAI", "tai_offset": 37}, {"scale": "unknown"}
 BEGUN = origin(0, "1764590400.250000000")
+OF_UNKNOWN, OF_TAI = origin(0, "1764590400.250000000", **UNKNOWN), origin(17, "1764590437.250000123", **TAI)
+LATER = "1764590437.250000000"
+STEPPED_TAI = [BEGUN, OF_TAI, origin(18, "1764590437.250000124", **UNKNOWN)]
+FIRST_LATE = [("5.000000000", 10, None), ("6.000000000", 7, None), ("7.000000000", 7, None)]
 # What facts have, the options, and what SETUP says of times.
-LISTS: dict[str, tuple[list, list[str], dict[str, object]]] = {
-    "one": (ONE, [], {"origins": [BEGUN]}),
-    "a clock that was set": (THREE_ORIGINS, [], {"origins": [BEGUN, origin(32, "1764586800.250000123")]}),
-    "a clock that ran TAI": (TAI_37, [], {"origins": [BEGUN, origin(17, "1764590437.250000123", **TAI)]}),
-    "of a scale that is said to be UTC": (
-        UNKNOWN_SCALE,
-        ["--utc"],
-        {"scale": "UTC", "origins": [origin(0, "1764590400.250000000", **UNKNOWN)]},
-    ),
-    "and TAI": (UNKNOWN_SCALE, ["--tai", "37"], {**TAI, "origins": [origin(0, "1764590400.250000000", **UNKNOWN)]}),
+LISTS: dict[str, tuple[list, str, dict[str, object]]] = {
+    "one": (ONE, "", {"origins": [BEGUN]}),
+    "a clock that was set": (THREE_ORIGINS, "", {"origins": [BEGUN, origin(32, "1764586800.250000123")]}),
+    "a clock that ran TAI": (TAI_37, "", {"origins": [BEGUN, OF_TAI]}),
+    "of a scale that is said to be UTC": (UNKNOWN_SCALE, "--utc", {"scale": "UTC", "origins": [OF_UNKNOWN]}),
+    "and TAI": (UNKNOWN_SCALE, "--tai 37", {**TAI, "origins": [OF_UNKNOWN]}),
     "what is said is of an unknown scale alone": (
         [*TAI_37, ("1764590437.250000124", 18, None, None)],
-        ["--tai", "36"],
-        {
-            "scale": "TAI",
-            "tai_offset": 36,
-            "origins": [
-                BEGUN,
-                origin(17, "1764590437.250000123", **TAI),
-                origin(18, "1764590437.250000124", **UNKNOWN),
-            ],
-        },
+        "--tai 36",
+        {"scale": "TAI", "tai_offset": 36, "origins": STEPPED_TAI},
     ),
     "a scale that came to be known": (
-        [("1764590437.250000000", 0, None, None), ("1764590437.250000000", 0, None, "TAI", 37)],
-        [],
-        {"origins": [origin(0, "1764590437.250000000", **TAI)]},
+        [(LATER, 0, None, None), (LATER, 0, None, "TAI", 37)],
+        "",
+        {"origins": [origin(0, LATER, **TAI)]},
     ),
-    "the first holds from 0 on": (
-        [("5.000000000", 10, None), ("6.000000000", 7, None), ("7.000000000", 7, None)],
-        [],
-        {"origins": [origin(0, "5.000000000"), origin(7, "7.000000000")]},
-    ),
+    "the first holds from 0 on": (FIRST_LATE, "", {"origins": [origin(0, "5.000000000"), origin(7, "7.000000000")]}),
     "the first holds for no counter": (
         [("5.000000000", 10, None), ("6.000000000", 0, None)],
-        [],
+        "",
         {"origins": [origin(0, "6.000000000")]},
     ),
-    "before 1970": ([("-0.000000001", 0, None)], [], {"origins": [origin(0, "-0.000000001")]}),
+    "before 1970": ([("-0.000000001", 0, None)], "", {"origins": [origin(0, "-0.000000001")]}),
     "the last counter": (
         [*ONE, ("7.000000000", 2**48 - 1, None)],
-        [],
+        "",
         {"origins": [BEGUN, origin(2**48 - 1, "7.000000000")]},
     ),
 }
@@ -72,23 +60,20 @@ def test_origins_are_those_of_the_facts(work: Path, name: str) -> None:
     recording = Path(shutil.copy(SAMPLES[1], work / "flight.ch11"))
     noted, words, due = LISTS[name]
     with_facts(recording, noted)
-    found = setup_by(recording, *words)
+    found = setup_by(recording, *words.split())
     judge(name, {key: value for key, value in found.items() if key in ("origins", *TAI)} == due, found)
 
 
 TURNED = "1764590400.000000000", "1736442902.328934400"
+AT, BACK, ON = "1764590400.250000000", "1764590399.250000000", "1764590401.250000001"
+MOVED = [(LATER, 0, None, None), (AT, 9, None)]
 # Of several recordings: what the facts of one have, the options, and the origins in its table; whether a line says that
 # others are left out.
 STEPS: dict[str, tuple[list, list[str], list, bool]] = {
     "one": (ONE, [], [BEGUN], False),
-    "by a second": (
-        [*ONE, ("1764590399.250000000", 9, None), ("1764590400.250000000", 99, None)],
-        [],
-        [BEGUN, origin(9, "1764590399.250000000"), origin(99, "1764590400.250000000")],
-        False,
-    ),
+    "by a second": ([*ONE, (BACK, 9, None), (AT, 99, None)], [], [BEGUN, origin(9, BACK), origin(99, AT)], False),
     "back by more": ([*ONE, ("1764590399.249999999", 9, None)], [], [origin(0, "1764590399.249999999")], True),
-    "on by more": ([*ONE, ("1764590401.250000001", 9, None)], [], [origin(0, "1764590401.250000001")], True),
+    "on by more": ([*ONE, (ON, 9, None)], [], [origin(0, ON)], True),
     "the last of them counts": (
         [*ONE, ("3.000000000", 9, None), ("4.500000000", 10, None), ("5.000000000", 11, None)],
         [],
@@ -101,19 +86,9 @@ STEPS: dict[str, tuple[list, list[str], list, bool]] = {
         [BEGUN, origin(9, "1764590400.250000001")],
         False,
     ),
-    "of two scales": (TAI_37, [], [BEGUN, origin(17, "1764590437.250000123", **TAI)], False),
-    "a scale that is said": (
-        [("1764590437.250000000", 0, None, None), ("1764590400.250000000", 9, None)],
-        ["--tai=37"],
-        [origin(0, "1764590437.250000000", **UNKNOWN), origin(9, "1764590400.250000000")],
-        False,
-    ),
-    "which is another": (
-        [("1764590437.250000000", 0, None, None), ("1764590400.250000000", 9, None)],
-        ["--tai=39"],
-        [origin(0, "1764590400.250000000")],
-        True,
-    ),
+    "of two scales": (TAI_37, [], [BEGUN, OF_TAI], False),
+    "a scale that is said": (MOVED, ["--tai=37"], [origin(0, LATER, **UNKNOWN), origin(9, AT)], False),
+    "which is another": (MOVED, ["--tai=39"], [origin(0, AT)], True),
     "counters that begin at 0 again": (
         [(TURNED[0], 0, None), (TURNED[1], 2**47, None)],
         [],

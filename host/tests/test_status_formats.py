@@ -84,8 +84,7 @@ def object_of(view: View, told: tuple[Alarm, ...], age: float = 0.25) -> dict:
 def test_the_status_is_as_its_schema_says(flights: dict) -> None:
     schema = schema_of("status")
     for name, flight in flights.items():
-        found = object_of(*told_of(flight))
-        wrong = faults(found, schema)
+        wrong = faults(object_of(*told_of(flight)), schema)
         judge(f"{name}: it is as the schema says", not wrong, wrong[:5])
     names = {it.name for flight in flights.values() for it in told_of(flight)[1]}
     judge("with alarms of many kinds", len(names) >= 6, names)
@@ -200,8 +199,7 @@ def test_the_error_of_a_clock_is_there_to_the_microsecond(flights: dict) -> None
 
 
 def test_what_is_not_known_has_no_sample(flights: dict) -> None:
-    samples = read_metrics(metrics.text_of(*told_of(flights["without"])))
-    names = {it.name for it in samples}
+    names = {it.name for it in read_metrics(metrics.text_of(*told_of(flights["without"])))}
     holds = "bpfrec_channel_offered_frames_total" not in names and "bpfrec_channel_kept_frames_total" in names
     judge("of a feed nobody counts", holds)
     judge("of a clock of which nobody says anything", not any(it.startswith("bpfrec_clock") for it in names), names)
@@ -209,8 +207,7 @@ def test_what_is_not_known_has_no_sample(flights: dict) -> None:
 
 def test_the_page_has_each_metric_and_each_alarm(flights: dict) -> None:
     """And no other."""
-    text = (FORMATS / "live.md").read_text().partition("### `/metrics`")[2]
-    rows, alarm_rows = text.partition("### Alarms")[::2]
+    rows, alarm_rows = (FORMATS / "live.md").read_text().partition("### `/metrics`")[2].partition("### Alarms")[::2]
     named = {
         f"bpfrec_{it}"
         for row in re.findall(r"^\| (`.*?`) \| (?:gauge|counter)", rows, re.MULTILINE)

@@ -95,8 +95,7 @@ def test_a_recording_by_the_recorder_is_followed_whole(work: Path) -> None:
     feed = make_feed(work / "a.feed", 5_000)
     settings = write_settings(work, [feed, make_feed(work / "b.feed", 300)], ["half", "none"])
     judge_quietly("it is recorded", record(settings, work / "out.ch11").returncode == 0)
-    growing = Growth(str(work / "out.ch11"))
-    told = everything(growing)
+    told = everything(Growth(str(work / "out.ch11")))
     judge("each packet tells what it has", told == wanted_of((work / "out.ch11").read_bytes()))
     kept: Counter[int] = Counter()
     for piece in told:

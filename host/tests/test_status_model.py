@@ -101,15 +101,13 @@ def test_a_recording_has_its_name_its_length_and_its_time(work: Path) -> None:
 
 
 def test_the_rate_is_that_of_the_last_minute(work: Path) -> None:
-    flight = Flight(work, {1: Wire("eth0", frames=400, end=20)}).flown(90)
-    found = view_of(flight)
+    found = view_of(Flight(work, {1: Wire("eth0", frames=400, end=20)}).flown(90))
     judge("a recording that stands has no rate, and its disk has time", present(found.recording).bytes_per_second == 0)
     judge("for ever", present(found.disk).seconds_left is None)
 
 
 def test_a_disk_on_which_room_is_made_is_not_full_soon(work: Path) -> None:
-    flight = Flight(work, {1: Wire("eth0", frames=400)}, has_ring=True).flown(10)
-    found = view_of(flight)
+    found = view_of(Flight(work, {1: Wire("eth0", frames=400)}, has_ring=True).flown(10))
     holds = present(found.disk).seconds_left is None and present(found.disk).free > 0
     judge("a disk on which room is made isn't full soon", holds)
 
@@ -184,8 +182,7 @@ def test_packets_without_frames_are_no_kept_frames(work: Path) -> None:
 
 
 def test_a_channel_without_an_interface_has_no_offered_frames(work: Path) -> None:
-    flight = Flight(work, {1: Wire(None, frames=400)}).flown(5)
-    found = channel_of(flight, 1)
+    found = channel_of(Flight(work, {1: Wire(None, frames=400)}).flown(5), 1)
     judge("what it was offered isn't known", found.counts is None and found.unkept is None and found.frame_age is None)
     judge("what it kept is", found.kept_frames == 2_000)
 

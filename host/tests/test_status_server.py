@@ -190,23 +190,8 @@ def test_places_to_serve_at_are_read_and_others_refused() -> None:
     found = {it: status.endpoint_in(it) for it in wanted}
     judge("places", {k: (str(it.address), it.port) for k, it in found.items()} == wanted)
     judge("and as they are told", str(found["[::1]:8080"]) == "[::1]:8080" and str(found["8080"]) == "127.0.0.1:8080")
-    for word in (
-        "",
-        "x",
-        "-1",
-        "65536",
-        "99999",
-        ":80",
-        "localhost:80",
-        "1.2.3:80",
-        "1.2.3.4.5:80",
-        "256.1.1.1:80",
-        "::1:80",
-        "[::1]",
-        "[1.2.3.4]x:80",
-        "80\n",
-        "\u0668",
-    ):
+    others = "x -1 65536 99999 :80 localhost:80 1.2.3:80 1.2.3.4.5:80 256.1.1.1:80 ::1:80 [::1] [1.2.3.4]x:80 \u0668"
+    for word in ("", "80\n", *others.split()):
         with pytest.raises(status.BadEndpoint) as refused:
             status.endpoint_in(word)
         holds = refused.value.status == 2 and word in str(refused.value)

@@ -125,42 +125,27 @@ STATUS: dict[str, Any] = {
     "host": "fc1",
     "utc": "2025-12-01T12:00:00.987Z",
 }
-OF_RUN = {
-    "status_age_seconds": 0.75,
-    "uptime_seconds": 71.5,
-    "recording": 1,
-    "recording_number": 3,
-    "recording_seconds": 72.5,
-    "recording_bytes": 301,
-    "disk_free_bytes": 304,
-    "disk_seconds_left": 305,
-    "sync_age_seconds": 3.5,
-    "sync_faults_total": 306,
-    "clock_synchronised": 1,
-    "clock_max_error_seconds": 0.000125,
-    'audits_total{answer="yes"}': 308,
-    'audits_total{answer="no"}': 309,
-    'audits_total{answer="none"}': 310,
-    'ground_datagrams_total{address="192.0.2.1:5000"}': 401,
-    'ground_lost_datagrams_total{address="192.0.2.1:5000"}': 402,
-    'ground_late_packets_total{address="192.0.2.1:5000"}': 403,
-    'ground_is_sent_to{address="192.0.2.1:5000"}': 1,
-}
-OF_CHANNEL = {
-    "offered_frames_total": 201,
-    "offered_bytes_total": 202,
-    "kept_frames_total": 207,
-    "kept_bytes_total": 208,
-    "dropped_frames_total": 203,
-    "missed_frames_total": 204,
-    "skipped_frames_total": 205,
-    "waited_seconds_total": 0.206,
-    "filter_version": 5,
-    "filter_changes_total": 6,
-    "last_frame_age_seconds": 1.5,
-    "away": 1,
-    "interruptions_total": 211,
-}
+STATION = '{address="192.0.2.1:5000"}'
+
+
+def numbers(text: str) -> dict[str, float]:
+    """The numbers of a text of NAME:VALUE, by their names."""
+    return {name: float(value) for name, _, value in (it.rpartition(":") for it in text.split())}
+
+
+OF_RUN = numbers(
+    "status_age_seconds:0.75 uptime_seconds:71.5 recording:1 recording_number:3 recording_seconds:72.5 "
+    "recording_bytes:301 disk_free_bytes:304 disk_seconds_left:305 sync_age_seconds:3.5 sync_faults_total:306 "
+    'clock_synchronised:1 clock_max_error_seconds:0.000125 audits_total{answer="yes"}:308 '
+    'audits_total{answer="no"}:309 audits_total{answer="none"}:310 '
+    f"ground_datagrams_total{STATION}:401 ground_lost_datagrams_total{STATION}:402 "
+    f"ground_late_packets_total{STATION}:403 ground_is_sent_to{STATION}:1"
+)
+OF_CHANNEL = numbers(
+    "offered_frames_total:201 offered_bytes_total:202 kept_frames_total:207 kept_bytes_total:208 "
+    "dropped_frames_total:203 missed_frames_total:204 skipped_frames_total:205 waited_seconds_total:0.206 "
+    "filter_version:5 filter_changes_total:6 last_frame_age_seconds:1.5 away:1 interruptions_total:211"
+)
 
 
 def test_each_value_of_the_status_is_the_one_that_it_stands_for() -> None:

@@ -168,8 +168,7 @@ def test_the_table_is_written_in_its_place_with_lines_above_it(work: Path, shown
             flight.wires[1].dropped = 3
         shown.read()
     rows = shown.read().rstrip("\n").split("\n")
-    wanted = plain(table.lines_of(*told_of(flight), 99, 29))
-    holds = rows == ["said in second 3", "said in second 9", *wanted]
+    holds = rows == ["said in second 3", "said in second 9", *plain(table.lines_of(*told_of(flight), 99, 29))]
     judge("one table stands there, below what was said", holds, rows)
 
 

@@ -101,9 +101,13 @@ class Damage(NamedTuple):
     which: int
 
 
+def of_text(edit: Edit, fault: str) -> Damage:
+    """A change of the setup record."""
+    return Damage(with_data(SETUP, 0, edit), fault, SETUP, 0)
+
+
 def of_setup(old: str, new: str, fault: str) -> Damage:
-    """A change of the setup record's text."""
-    return Damage(with_data(SETUP, 0, replaced(old, new)), fault, SETUP, 0)
+    return of_text(replaced(old, new), fault)
 
 
 def of_time(which: int, edit: Edit, fault: str) -> Damage:
@@ -133,28 +137,23 @@ def renamed(channel: str) -> Edit:
     return lambda data: replaced("DSI-2:eth5 5", f"DSI-2:eth5 {channel}")(replaced("TK1-2:5", f"TK1-2:{channel}")(data))
 
 
+HAS = "the setup record has"
 SETUP_DAMAGES = {
-    "another edition": Damage(
-        with_data(SETUP, 0, byte_set(0, 11)), "the setup record isn't RCC 106-17 in ASCII", SETUP, 0
-    ),
+    "another edition": of_text(byte_set(0, 11), "the setup record isn't RCC 106-17 in ASCII"),
     "a character beyond ASCII": of_setup("wing", "w\u00efng", "the setup record is no ASCII at its character 600"),
-    "a line without its carriage return": of_setup(
-        "STO;\r\n", "STO;\n", "the setup record has no NAME:VALUE; at its character 73"
-    ),
-    "one channel less": of_setup("R-1\\N:4", "R-1\\N:3", "the setup record has more channels than it says"),
-    "one channel more": of_setup("R-1\\N:4", "R-1\\N:5", "the setup record has no R-1\\TK1-5"),
+    "a line without its carriage return": of_setup("STO;\r\n", "STO;\n", f"{HAS} no NAME:VALUE; at its character 73"),
+    "one channel less": of_setup("R-1\\N:4", "R-1\\N:3", f"{HAS} more channels than it says"),
+    "one channel more": of_setup("R-1\\N:4", "R-1\\N:5", f"{HAS} no R-1\\TK1-5"),
     "a count that is no number": of_setup("R-1\\N:4", "R-1\\N:four", "R-1\\N is no number"),
-    "a channel of another type": of_setup("CDT-2:ETHIN", "CDT-2:PCMIN", "the setup record has a channel of type PCMIN"),
-    "a channel twice": of_setup("TK1-2:5", "TK1-2:9", "the setup record has channel 9 twice"),
-    "the channel 0": Damage(with_data(SETUP, 0, renamed("0")), "the setup record has channel 0", SETUP, 0),
-    "channels that fall": Damage(
-        with_data(SETUP, 0, renamed("10")), "channels of the setup record don't rise", SETUP, 0
-    ),
+    "a channel of another type": of_setup("CDT-2:ETHIN", "CDT-2:PCMIN", f"{HAS} a channel of type PCMIN"),
+    "a channel twice": of_setup("TK1-2:5", "TK1-2:9", f"{HAS} channel 9 twice"),
+    "the channel 0": of_text(renamed("0"), f"{HAS} channel 0"),
+    "channels that fall": of_text(renamed("10"), "channels of the setup record don't rise"),
     "a channel of the time that isn't the least": of_setup(
         "TK1-1:1", "TK1-1:2", "the time has channel 2, which isn't the least that is free"
     ),
     "two channels of the time": of_setup("CDT-2:ETHIN", "CDT-2:TIMEIN", "R-1\\CDT-2 is 'TIMEIN'"),
-    "no host": of_setup("G\\DSI-1:bench 3;\r\n", "", "the setup record has G\\DST-1 in the place of G\\DSI-1"),
+    "no host": of_setup("G\\DSI-1:bench 3;\r\n", "", f"{HAS} G\\DST-1 in the place of G\\DSI-1"),
     "another document": of_setup("G\\106:17", "G\\106:15", "G\\106 is '15'"),
     "another host": of_setup("R-1\\ID:bench 3", "R-1\\ID:bench 4", "R-1\\ID is 'bench 4'"),
     "a name that begins with a blank": of_setup("R-1\\R1:bpfrec", "R-1\\R1: bpfrec", "R-1\\R1 is ' bpfrec 0.1.0'"),
@@ -175,21 +174,13 @@ SETUP_DAMAGES = {
     "lines in another order": of_setup(
         "R-1\\NSB:0;\r\nR-1\\IDX\\E:T;",
         "R-1\\IDX\\E:T;\r\nR-1\\NSB:0;",
-        "the setup record has R-1\\IDX\\E in the place of R-1\\NSB",
+        f"{HAS} R-1\\IDX\\E in the place of R-1\\NSB",
     ),
-    "a line less": of_setup("R-1\\EV\\E:F;\r\n", "", "the setup record has R-1\\N in the place of R-1\\EV\\E"),
+    "a line less": of_setup("R-1\\EV\\E:F;\r\n", "", f"{HAS} R-1\\N in the place of R-1\\EV\\E"),
     "another comment": of_setup("R-1\\COM:Packets", "R-1\\COM:Boxes", "R-1\\COM is 'Boxes of type 0 on channel 0"),
-    "a line twice": Damage(
-        with_data(SETUP, 0, line_twice("G\\OD:12-01-2025")),
-        "the setup record has G\\OD twice, or of no channel",
-        SETUP,
-        0,
-    ),
-    "a line of a channel that isn't there": Damage(
-        with_data(SETUP, 0, line_twice("R-1\\CHE-77:T")),
-        "the setup record has R-1\\CHE-77 twice, or of no channel",
-        SETUP,
-        0,
+    "a line twice": of_text(line_twice("G\\OD:12-01-2025"), f"{HAS} G\\OD twice, or of no channel"),
+    "a line of a channel that isn't there": of_text(
+        line_twice("R-1\\CHE-77:T"), f"{HAS} R-1\\CHE-77 twice, or of no channel"
     ),
     "an external clock": Damage(
         with_data(SETUP, 0, replaced("TSRC-1:I", "TSRC-1:E")),
@@ -198,7 +189,7 @@ SETUP_DAMAGES = {
         0,
     ),
     "another counter than the first time packet's": Damage(
-        with_fields(SETUP, 0, counter=5), "the setup record has another counter than the first time packet", TIME, 0
+        with_fields(SETUP, 0, counter=5), f"{HAS} another counter than the first time packet", TIME, 0
     ),
     "a second setup record": Damage(
         lambda parts: [*parts[:3], parts[0], *parts[3:]], "a setup record within the file", SETUP, 1
@@ -276,17 +267,11 @@ RECORD_DAMAGES = {
 CONTENTS = {**SETUP_DAMAGES, **TIME_DAMAGES, **FRAMES_DAMAGES, **RECORD_DAMAGES}
 # How many faults are named of those of which another one follows.
 FAULTS = {
-    "the channel 0": 7,
-    "channels that fall": 7,
-    "a channel of the time that isn't the least": 8,
-    "two channels of the time": 8,
-    "another date": 2,
-    "a name of over 32 letters": 2,
-    "an outside source": 2,
-    "a time packet that stands still": 2,
-    "no first time packet": 3,
-    "a second missing ahead of frames": 2,
-    "frames over a second too late": 3,
+    **dict.fromkeys(("the channel 0", "channels that fall"), 7),
+    **dict.fromkeys(("a channel of the time that isn't the least", "two channels of the time"), 8),
+    **dict.fromkeys(("another date", "a name of over 32 letters", "an outside source"), 2),
+    **dict.fromkeys(("a time packet that stands still", "a second missing ahead of frames"), 2),
+    **dict.fromkeys(("no first time packet", "frames over a second too late"), 3),
 }
 
 
