@@ -124,20 +124,16 @@ def named(name: str, data: bytes) -> dict[str, str]:
 
 def test_the_one_before_is_the_one_that_is_given_before(work: Path) -> None:
     judged = Judged(work)
-    found = judged.of("r_00002", b"b", before=named("r_00001", b"a"))
-    judge("of the first it isn't asked for", found == (True, ["hash right", "before not given: r_00001"]), found)
-    found = judged.of("r_00003", b"c", before=named("r_00002", b"b"))
-    judge("it is", found == (True, ["hash right", "before right: r_00002"]), found)
-    judge_same("another run begins", judged.of("r_00004", b"d"), (True, ["hash right", "before none"]))
-    found = judged.of("r_00005", b"e", before=named("r_00003", b"c"))
-    judge("another", found == (False, ["hash right", "before wrong: r_00004, the facts say r_00003"]), found)
-    found = judged.of("r_00006", b"f", before=named("r_00005", b"x"))
-    line = "before wrong: r_00005 has another hash than the facts say"
-    judge("another hash", found == (False, ["hash right", line]), found)
-    found = judged.of("r_00007", b"g", before={"recording": "r_00006", "sha256": None})
-    judge("nobody knew it", found == (True, ["hash right", "before unknown: r_00006 had no hash"]), found)
-    found = judged.of("s_00003", b"h", before=named("s_00002", b"b"))
-    judge("nor of the first of another run", found == (True, ["hash right", "before not given: s_00002"]), found)
+    for name, before, is_right, line in [
+        ("r_00002", named("r_00001", b"a"), True, "before not given: r_00001"),
+        ("r_00003", named("r_00002", b"2"), True, "before right: r_00002"),
+        ("r_00004", None, True, "before none"),
+        ("r_00005", named("r_00003", b"3"), False, "before wrong: r_00004, the facts say r_00003"),
+        ("r_00006", named("r_00005", b"x"), False, "before wrong: r_00005 has another hash than the facts say"),
+        ("r_00007", {"recording": "r_00006", "sha256": None}, True, "before unknown: r_00006 had no hash"),
+        ("s_00003", named("s_00002", b"b"), True, "before not given: s_00002"),
+    ]:
+        judge_same(name, judged.of(name, name[-1:].encode(), before=before), (is_right, ["hash right", line]))
 
 
 def test_runs_of_one_name_are_judged_together(work: Path) -> None:

@@ -127,11 +127,12 @@ def test_in_a_silence_a_datagram_without_a_packet_goes_out_each_second(monkeypat
 class Watched:
     """A window, with what it gives."""
 
-    def __init__(self) -> None:
+    def __init__(self, *numbers: int) -> None:
         self.taken: list[int] = []
         self.gaps: list[tuple[int, int]] = []
         self.restarts = 0
         self.window = Window(self.take, lambda count, number: self.gaps.append((count, number)), self.restart)
+        self.add(*numbers)
 
     def take(self, datagram: Datagram) -> None:
         self.taken.append(datagram.number)
@@ -156,8 +157,7 @@ def test_what_changes_places_within_64_is_put_in_order(seed: int) -> None:
     twice = [it for it in numbers if it not in gone and draw.random() < 0.1]
     came = [it for it in sorted(numbers + twice) if it not in gone]
     order = sorted(came, key=lambda it: it + draw.random() * (WIDTH - 2)) if first == 0 else came
-    watched = Watched()
-    watched.add(*order)
+    watched = Watched(*order)
     watched.window.give_up()
     wanted = [it % TURN for it in numbers if it not in gone]
     judge("each once, in order", watched.taken == wanted, (len(watched.taken), len(wanted)))
@@ -166,8 +166,7 @@ def test_what_changes_places_within_64_is_put_in_order(seed: int) -> None:
 
 
 def test_a_gap_is_waited_for_no_longer_than_64_datagrams() -> None:
-    watched = Watched()
-    watched.add(0, *range(2, 2 + WIDTH - 1))
+    watched = Watched(0, *range(2, 2 + WIDTH - 1))
     judge("it waits", watched.taken == [0])
     watched.add(WIDTH + 1)
     judge("and goes on", watched.taken == [0, *range(2, WIDTH + 2)] and watched.gaps == [(1, 2)], watched.gaps)
@@ -176,35 +175,28 @@ def test_a_gap_is_waited_for_no_longer_than_64_datagrams() -> None:
 
 
 def test_a_receiver_that_comes_late_has_lost_nothing() -> None:
-    watched = Watched()
-    watched.add(1_000, 1_001)
+    watched = Watched(1_000, 1_001)
     judge("it begins there", (watched.taken, watched.counts()) == ([1_000, 1_001], (0, 0)))
 
 
 def test_the_first_datagrams_may_change_places() -> None:
-    watched = Watched()
-    watched.add(2, 0, 1, 3)
+    watched = Watched(2, 0, 1, 3)
     judge("in order", (watched.taken, watched.counts()) == ([0, 1, 2, 3], (0, 0)), watched.taken)
 
 
 def test_another_stream_is_followed_where_it_begins() -> None:
-    watched = Watched()
-    watched.add(*range(500), *range(10))
+    watched = Watched(*range(500), *range(10))
     judge("by number 0", (watched.restarts, watched.taken[500:]) == (1, list(range(10))), watched.taken[500:])
-    late = Watched()
-    late.add(*range(500), *range(3, 40))
+    late = Watched(*range(500), *range(3, 40))
     wanted = list(range(3 + MOST_BEHIND - 1, 40))
     judge("or where it goes on", (late.restarts, late.taken[500:]) == (1, wanted), late.taken[500:])
-    short = Watched()
-    short.add(*range(10))
+    short = Watched(*range(10))
     for number in range(5):
         short.window.add(Datagram(number, None, b"another"))
     judge("however short the one before was", (short.restarts, len(short.taken)) == (1, 15), short.taken)
-    stray = Watched()
-    stray.add(*range(20), 0, 5, *range(20, 500))
+    stray = Watched(*range(20), 0, 5, *range(20, 500))
     judge_quietly("its own first one begins none", (stray.restarts, stray.counts()) == (0, (0, 2)), stray.counts())
-    stray = Watched()
-    stray.add(*range(500), 7, 7, 100, 101, 102, 5, 500, 501)
+    stray = Watched(*range(500), 7, 7, 100, 101, 102, 5, 500, 501)
     judge("old ones that stray begin none", (stray.restarts, stray.taken[500:]) == (0, [500, 501]), stray.taken[500:])
     judge("and are counted", stray.counts() == (0, 6), stray.counts())
 

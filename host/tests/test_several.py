@@ -169,12 +169,7 @@ def test_a_run_is_followed_beyond_what_is_damaged(work: Path, which: str) -> Non
     done = outcome(FOLLOW, paths[0], text=False)
     said = done.stderr.decode()
     judge("the status", done.returncode == any(DAMAGED[which]), said)
-    judge(
-        "each is named",
-        [it for it, bad in zip(paths, DAMAGED[which]) if f"{it}: " in said]
-        == [it for it, bad in zip(paths, DAMAGED[which]) if bad],
-        said,
-    )
+    judge("each is named", [f"{it}: " in said for it in paths] == [bool(bad) for bad in DAMAGED[which]], said)
     judge("frames of both", 4 <= len(frames_in(done.stdout)) == 8 - 2 * sum(DAMAGED[which]), said)
 
 
