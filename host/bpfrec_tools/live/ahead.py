@@ -59,10 +59,12 @@ def refuse_lacking(settings: Settings, given: Arguments) -> None:
     """Refuses a channel without an ID, with that of another one, or with neither an interface nor a feed, in the words of
     record."""
     known: list[Channel] = []
-    routed, there = {it.channel for it in given.routes}, {it.id() for it in settings.channels}
+    there: set[object] = {it.id() for it in settings.channels}
+    routed: set[object] = {it.channel for it in given.routes}
+    if not routed <= there:
+        routed = there  # an interface of a channel that isn't there is refused for that
     for channel in settings.channels:
-        # An interface of a channel that isn't there is refused for that.
-        what = lack_of(channel, known, routed if routed <= there else there)
+        what = lack_of(channel, known, routed)
         if what:
             place = ":".join(str(it) for it in (settings.file, channel.line("id")) if it)
             raise refused(2, f"{place}: {channel.name}: {what}")
