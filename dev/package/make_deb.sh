@@ -35,7 +35,7 @@ maintainer=${MAINTAINER:-bpfrec maintainers <maintainers@bpfrec.invalid>}
 version=$(sed -n 's/^pub const VERSION: &str = "\(.*\)";$/\1/p' crates/rec_words/src/command_line.rt)
 architecture=$(dpkg --print-architecture)
 root=$(mktemp -d)
-trap 'rm -rf "$root" bin/*.deb.part' EXIT
+trap 'rm -rf "$root" bin/*.$$.part' EXIT
 
 # Moves the Python package of an installation into the folder of its Debian package.
 move_python() {
@@ -98,8 +98,8 @@ Priority: optional
 $(cat)
 END
     # Who looks meanwhile sees the earlier package or the new one, whole.
-    dpkg-deb --root-owner-group --build "$folder" "$made.part" > /dev/null
-    mv "$made.part" "$made"
+    dpkg-deb --root-owner-group --build "$folder" "$made.$$.part" > /dev/null
+    mv "$made.$$.part" "$made"
     echo "$made"
 }
 
