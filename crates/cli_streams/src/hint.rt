@@ -148,7 +148,8 @@ fn hint_of_text(fault: AsmFault) -> &'static str {
         AsmFault::OperandNotAllowed { .. } => "the instruction in that line takes no such operand",
         AsmFault::LabelMissing { .. } => "the jump in that line names a label that no line has",
         AsmFault::LabelTwice { .. } => "a label of that line is that of an earlier line too",
-        AsmFault::Backward { .. } => "the jump in that line goes back or to itself: filters go forward alone",
+        AsmFault::Backward { .. } =>
+            "the jump in that line goes back or to itself: filters go forward alone",
         AsmFault::TooFar { .. } =>
             "the test in that line leads over more than 255 instructions: let it lead to a ja",
         AsmFault::TooLong => "a filter has 4096 instructions at most",
@@ -171,7 +172,8 @@ fn hint_of_listing(fault: ListingFault) -> &'static str {
     match fault {
         ListingFault::Syntax { .. } =>
             "a listing is a count, and four numbers for each instruction: bpfrec asm makes it of a text",
-        ListingFault::Count { .. } => "the first number says how many instructions follow, and others do",
+        ListingFault::Count { .. } =>
+            "the first number says how many instructions follow, and others do",
         ListingFault::Range { .. } => "that number is too large for its field",
         ListingFault::Memory => NO_MEMORY,
     }
